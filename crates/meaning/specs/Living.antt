@@ -1,0 +1,39 @@
+-- The runs over a message, listed: the first algorithm of 004, section 3 (its `update`), with trails.
+use mathlib.Core.Bool.{Bool, _&&_, not}
+use mathlib.Core.List.{List, [], _++_, map, foldl}
+use Prim.Native.Nat.{ℕ}
+use lib.Dec.{eqb}
+use Rattle.words.specs.Lists.{each, only, isEmpty}
+use Rattle.words.specs.Words.{Word}
+use Rattle.meaning.specs.Table.{Class, Row, Table}
+use Rattle.meaning.specs.Runs.{shifted}
+use Rattle.meaning.specs.Trails.{Trail, ground, top, stackOf, carry}
+
+-- a trail with an output; where sessions are meant, with what of it still waits
+pub record Place : Type 0 where
+  pub trail : Trail
+  pub output : Word
+
+abbrev pub place : Trail → Word → Place
+place t o = record { trail = t; output = o }
+
+-- a row of class `k` can be taken from the top of a trail
+abbrev pub fits : Class → Row → Trail → Bool
+fits k r t = eqb (top t .state) (r .from) && not (isEmpty (shifted k (r .marker) (stackOf t)))
+
+-- where a row takes a place on a symbol: one place, or none
+abbrev pub moves : Table → ℕ → Place → Row → List Place
+moves T a p r =
+    only (eqb (r .symbol) a && fits (T .class a) r (p .trail))
+    (place (carry (T .class a) r (p .trail)) (p .output ++ r .word))
+
+-- R-2: "Runs stand by the run they come from (at begin, by state), then by row"
+abbrev pub moved : Table → List Place → ℕ → List Place
+moved T X a = each (λ p. each (moves T a p) (T .rows)) X
+
+abbrev pub begun : Table → List Place
+begun T = map (λ q. place (ground q) []) (T .starting)
+
+-- one place for each run over the message
+abbrev pub living : Table → Word → List Place
+living T u = foldl (moved T) (begun T) u

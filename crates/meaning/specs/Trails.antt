@@ -1,0 +1,110 @@
+-- Trails and links: document 01, "The meaning of a table".
+use mathlib.Core.Path.{_≡_}
+use mathlib.Core.Option.{Option, some, none}
+use mathlib.Core.List.{List, [], _∷_, _++_}
+use Prim.Native.Nat.{ℕ, suc, _<_}
+use lib.ListN.{length}
+use Rattle.words.specs.Lists.{_among_, each}
+use Rattle.words.specs.Words.{Word}
+use Rattle.meaning.specs.Table.{Class, unused, call, return, internal, Row, Table}
+use Rattle.meaning.specs.Runs.{Config, Steps, stop, next, Run}
+
+-- a trail: at level 0 a state alone, else the present state and marker over the trail that the still open call left
+pub data Trail : Type 0 where
+  ground : ℕ → Trail
+  over : ℕ → ℕ → Trail → Trail
+
+-- "pairs (state, top marker; 0 for an empty stack)"
+pub record Pair : Type 0 where
+  pub state : ℕ
+  pub marker : ℕ
+
+abbrev pub top : Trail → Pair
+top (ground q) = record { state = q; marker = 0 }
+top (over q m t) = record { state = q; marker = m }
+
+-- "The trail of a run at depth d is a list of d+1 pairs": the present one first
+abbrev pub pairs : Trail → List Pair
+pairs (ground q) = top (ground q) ∷ []
+pairs (over q m t) = top (over q m t) ∷ pairs t
+
+abbrev pub stackOf : Trail → List ℕ
+stackOf (ground q) = []
+stackOf (over q m t) = m ∷ stackOf t
+
+abbrev pub height : Trail → ℕ
+height t = length (stackOf t)
+
+-- the numbers of a trail in one word: two trails are the same when these are
+abbrev pub trailKey : Trail → Word
+trailKey t = each (λ p. p .state ∷ p .marker ∷ []) (pairs t)
+
+-- the trail with another present state; and the trail under it with another present state
+abbrev pub seat : ℕ → Trail → Trail
+seat q (ground p) = ground q
+seat q (over p m t) = over q m t
+
+abbrev pub fall : ℕ → Trail → Trail
+fall q (ground p) = ground q
+fall q (over p m t) = seat q t
+
+-- what a row of each class makes of a trail
+abbrev pub carry : Class → Row → Trail → Trail
+carry unused r t = t
+carry call r t = over (r .to) (r .marker) t
+carry return r t = fall (r .to) t
+carry internal r t = seat (r .to) t
+
+abbrev pub trailFrom : Table → Trail → List Row → Trail
+trailFrom T t [] = t
+trailFrom T t (r ∷ ρ) = trailFrom T (carry (T .class (r .symbol)) r t) ρ
+
+abbrev pub trail : {T : Table} {u : Word} → Run T u → Trail
+trail {T} r = trailFrom T (ground (r .start)) (r .rows)
+
+-- "A link is a level, the pair at that level, and the pair one level below (none at level 0)"
+pub record Link : Type 0 where
+  pub level : ℕ
+  pub here : Pair
+  pub below : Option Pair
+
+-- the link of a pair that stands on the pair of the link `l`
+abbrev pub on : ℕ → ℕ → Link → Link
+on q m l = record { level = suc (l .level); here = record { state = q; marker = m }; below = some (l .here) }
+
+-- the link of the present pair
+abbrev pub linkOf : Trail → Link
+linkOf (ground q) = record { level = 0; here = record { state = q; marker = 0 }; below = none }
+linkOf (over q m t) = on q m (linkOf t)
+
+abbrev pub links : Trail → List Link
+links (ground q) = linkOf (ground q) ∷ []
+links (over q m t) = linkOf (over q m t) ∷ links t
+
+-- "links rise strictly by level, then state and marker, then state and marker below"
+abbrev pub pairKey : Option Pair → Word
+pairKey none = []
+pairKey (some p) = p .state ∷ p .marker ∷ []
+
+abbrev pub linkKey : Link → Word
+linkKey l = l .level ∷ l .here .state ∷ l .here .marker ∷ pairKey (l .below)
+
+-- "The pair at level i below d is that just before the still open call that led to level i+1. The pair at level d is the present
+-- one": of the configurations of a run, the last at depth `i` has the pair `p`, and all after it are deeper
+abbrev pub visited : {T : Table} {c e : Config} {u : Word} {ρ : List Row} → Steps T c u ρ e → List Config
+visited (stop {c}) = c ∷ []
+visited (next {c = c} v s) = c ∷ visited s
+
+abbrev pub topMarker : List ℕ → ℕ
+topMarker [] = 0
+topMarker (m ∷ ms) = m
+
+pub record LastAt (i : ℕ) (p : Pair) (H : List Config) : Type 0 where
+  pub before : List Config
+  pub at : Config
+  pub after : List Config
+  pub parts : H ≡ before ++ at ∷ after
+  pub level : length (at .stack) ≡ i
+  pub state : at .state ≡ p .state
+  pub marker : topMarker (at .stack) ≡ p .marker
+  pub deeper : (c : Config) → c among after → i < length (c .stack)

@@ -1,0 +1,109 @@
+-- Laws of the order of words and of lists that rise strictly. Assumes nothing.
+use mathlib.Core.Path.{_≡_, refl, sym, _∙_, ap}
+use mathlib.Core.Bool.{Bool, true, false, cond, false≢true}
+use mathlib.Core.Logic.{_⊎_, inl, inr}
+use mathlib.Core.List.{List, [], _∷_, List·Memᴰ·head, List·Memᴰ·tail, List·Memᴰ·cases-cons}
+use Prim.Native.Nat.{ℕ}
+use native.Mathlib.Omega.{arith}
+use lib.Dec.{eqb, ltb}
+use borrow.Author.Tests.{eqb-true, eqb-false, ltb-true, ltb-false, eq-eqb}
+use Rattle.words.specs.Lists.{_among_}
+use Rattle.words.specs.Words.{Word}
+use Rattle.words.specs.Order.{Less, Side, lower, same, upper, side, isSame, sameWord, Rises}
+
+pub less-self : (xs : Word) → Less xs xs → ⊥
+less-self [] h = h
+less-self (x ∷ xs) (inl h) = omega arith
+less-self (x ∷ xs) (inr h) = less-self xs (h .1)
+
+pub less-trans : (xs ys zs : Word) → Less xs ys → Less ys zs → Less xs zs
+less-trans [] [] zs h k = absurd h
+less-trans [] (y ∷ ys) [] h k = absurd k
+less-trans [] (y ∷ ys) (z ∷ zs) h k = tt
+less-trans (x ∷ xs) [] zs h k = absurd h
+less-trans (x ∷ xs) (y ∷ ys) [] h k = absurd k
+less-trans (x ∷ xs) (y ∷ ys) (z ∷ zs) (inl h) (inl k) = inl (omega arith)
+less-trans (x ∷ xs) (y ∷ ys) (z ∷ zs) (inl h) (inr k) = let e = k .0 in inl (omega arith)
+less-trans (x ∷ xs) (y ∷ ys) (z ∷ zs) (inr h) (inl k) = let e = h .0 in inl (omega arith)
+less-trans (x ∷ xs) (y ∷ ys) (z ∷ zs) (inr h) (inr k) = inr (h .0 ∙ k .0, less-trans xs ys zs (h .1) (k .1))
+
+-- what the side says
+abbrev Says : Side → Word → Word → Type 0
+Says lower xs ys = Less xs ys
+Says same xs ys = xs ≡ ys
+Says upper xs ys = Less ys xs
+
+says-first : (x y : ℕ) (xs ys : Word) → eqb x y ≡ false → (b : Bool) → ltb x y ≡ b
+    → Says (cond b lower upper) (x ∷ xs) (y ∷ ys)
+says-first x y xs ys n true e = inl (ltb-true x y e)
+says-first x y xs ys n false e = inl (let d = eqb-false x y n in omega (arith, ltb-false x y e))
+
+says-next : (s : Side) (x y : ℕ) (xs ys : Word) → x ≡ y → Says s xs ys → Says s (x ∷ xs) (y ∷ ys)
+says-next lower x y xs ys e h = inr (e, h)
+says-next same x y xs ys e h = cc
+says-next upper x y xs ys e h = inr (sym e, h)
+
+says : (xs ys : Word) → Says (side xs ys) xs ys
+says [] [] = refl
+says [] (y ∷ ys) = tt
+says (x ∷ xs) [] = tt
+says (x ∷ xs) (y ∷ ys) = go (eqb x y) refl (says xs ys)
+  where
+    go : (b : Bool) → eqb x y ≡ b → Says (side xs ys) xs ys
+        → Says (cond b (side xs ys) (cond (ltb x y) lower upper)) (x ∷ xs) (y ∷ ys)
+    go true e h = says-next (side xs ys) x y xs ys (eqb-true x y e) h
+    go false e h = says-first x y xs ys e (ltb x y) refl
+
+pub side-lower : (xs ys : Word) → side xs ys ≡ lower → Less xs ys
+side-lower xs ys e = rw e at (says xs ys)
+
+pub side-same : (xs ys : Word) → side xs ys ≡ same → xs ≡ ys
+side-same xs ys e = rw e at (says xs ys)
+
+pub side-upper : (xs ys : Word) → side xs ys ≡ upper → Less ys xs
+side-upper xs ys e = rw e at (says xs ys)
+
+pub side-self : (xs : Word) → side xs xs ≡ same
+side-self [] = refl
+side-self (x ∷ xs) = rw (eq-eqb x x refl) (side-self xs)
+
+-- the test of sameness
+pub same-out : (xs ys : Word) → sameWord xs ys ≡ true → xs ≡ ys
+same-out xs ys e = go (side xs ys) (says xs ys) e
+  where
+    go : (s : Side) → Says s xs ys → isSame s ≡ true → xs ≡ ys
+    go lower h e = absurd (false≢true e)
+    go same h e = h
+    go upper h e = absurd (false≢true e)
+
+pub same-in : {xs ys : Word} → xs ≡ ys → sameWord xs ys ≡ true
+same-in {ys} e = rw e (ap isSame (side-self ys))
+
+module _ {A : Type 0} (key : A → Word) where
+  tail-in : (x y : A) (l k : List A) → x ≡ y → Rises key (x ∷ l) → ((z : A) → z among x ∷ l → z among y ∷ k)
+      → (z : A) → z among l → z among k
+  tail-in x y l k e r f z m = go (List·Memᴰ·cases-cons (f z (List·Memᴰ·tail m)))
+    where
+      go : (z ≡ y) ⊎ (z among k) → z among k
+      go (inl d) = absurd (less-self (key z) (ap-less (e ∙ sym d) (r .0 z m)))
+        where
+          ap-less : x ≡ z → Less (key x) (key z) → Less (key z) (key z)
+          ap-less c h = rw c at h
+      go (inr n) = n
+
+  -- lists that rise strictly and have the same in them are the same
+  pub rises-same : (l k : List A) → Rises key l → Rises key k
+      → ((z : A) → z among l → z among k) → ((z : A) → z among k → z among l) → l ≡ k
+  rises-same [] [] r s f g = refl
+  rises-same [] (y ∷ k) r s f g = elim (g y (List·Memᴰ·head refl)) [ ]
+  rises-same (x ∷ l) [] r s f g = elim (f x (List·Memᴰ·head refl)) [ ]
+  rises-same (x ∷ l) (y ∷ k) r s f g =
+      let m = List·Memᴰ·cases-cons (f x (List·Memᴰ·head refl)) in
+      let e = heads m (List·Memᴰ·cases-cons (g y (List·Memᴰ·head refl))) in
+      let t = rises-same l k (r .1) (s .1) (tail-in x y l k e r f) (tail-in y x k l (sym e) s g) in
+      cc
+    where
+      heads : (x ≡ y) ⊎ (x among k) → (y ≡ x) ⊎ (y among l) → x ≡ y
+      heads (inl e) d = e
+      heads (inr m) (inl e) = sym e
+      heads (inr m) (inr n) = absurd (less-self (key x) (less-trans (key x) (key y) (key x) (r .0 y n) (s .0 x m)))

@@ -1,0 +1,30 @@
+-- Lists: what is among them, and what a function or a test makes of each thing in them.
+use mathlib.Core.Bool.{Bool, true, false, _&&_, _||_}
+use mathlib.Core.List.{List, [], _∷_, _++_, List·Memᴰ}
+
+infix 50 _among_
+abbrev pub _among_ : {A : Type 0} → A → List A → Type 0
+x among l = List·Memᴰ x l
+
+-- the lists that a function makes of the things in a list, joined in their order
+abbrev pub each : {A B : Type 0} → (A → List B) → List A → List B
+each f [] = []
+each f (x ∷ l) = f x ++ each f l
+
+-- the list of one thing, if a test passes
+abbrev pub only : {A : Type 0} → Bool → A → List A
+only true x = x ∷ []
+only false x = []
+
+-- a test passes for all in a list; for some in a list
+abbrev pub every : {A : Type 0} → (A → Bool) → List A → Bool
+every f [] = true
+every f (x ∷ l) = f x && every f l
+
+abbrev pub any : {A : Type 0} → (A → Bool) → List A → Bool
+any f [] = false
+any f (x ∷ l) = f x || any f l
+
+abbrev pub isEmpty : {A : Type 0} → List A → Bool
+isEmpty [] = true
+isEmpty (x ∷ l) = false
