@@ -1,4 +1,5 @@
--- Depth is calls less returns: of every run its stack is so high, and every taken message left a session that deep. Assumes nothing.
+-- Depth is calls less returns: as high as the stack of every run, as deep as the session after a taken message.
+-- Assumes nothing.
 use mathlib.Core.Path.{_≡_, refl, ap}
 use mathlib.Core.Bool.{Bool, true, false, cond, _&&_}
 use mathlib.Core.List.{List, [], _∷_, _++_}
@@ -9,9 +10,9 @@ use lib.ListN.{length}
 use borrow.Author.Tests.{eqb-false}
 use Rattle.words.specs.Words.{Word}
 use Rattle.meaning.specs.Table.{Class, unused, call, return, internal, is, Row, Table}
-use Rattle.meaning.specs.Runs.{Config, Shifts, Steps, stop, next, Run, count, depth}
+use Rattle.meaning.specs.Runs.{Config, Shifts, Steps, stop, next, Run, tally, depth}
 use Rattle.meaning.specs.Answers.{Moment, deeper, stepTests, Taken, none, more}
-use Rattle.meaning.proofs.First.{fails}
+use Rattle.meaning.proofs.Tests.{fails}
 
 -- one symbol more at the front, and at the end
 shifts-count : (k : Class) (m : ℕ) (s t : List ℕ) (c r n : ℕ) → Shifts k m s t → length t + c ≡ r + n
@@ -22,20 +23,20 @@ shifts-count return m s t c r n e h = let l = ap length e in omega arith
 shifts-count internal m s t c r n e h = let l = ap length e in omega arith
 
 steps-count : (T : Table) {c e : Config} {u : Word} {ρ : List Row} → Steps T c u ρ e
-    → length (c .stack) + count call T u ≡ count return T u + length (e .stack)
+    → length (c .stack) + tally call T u ≡ tally return T u + length (e .stack)
 steps-count T stop = omega arith
 steps-count T (next {a} {u} {r} {ρ} {c} {d} {e} v s) =
-    shifts-count (T .class a) (r .marker) (c .stack) (d .stack) (count call T u) (count return T u) (length (e .stack))
+    shifts-count (T .class a) (r .marker) (c .stack) (d .stack) (tally call T u) (tally return T u) (length (e .stack))
     (v .takes .shifts) (steps-count T s)
 
 count-snoc : (k : Class) (T : Table) (u : Word) (a : ℕ)
-    → count k T (u ++ a ∷ []) ≡ cond (is (T .class a) k) (suc (count k T u)) (count k T u)
+    → tally k T (u ++ a ∷ []) ≡ cond (is (T .class a) k) (suc (tally k T u)) (tally k T u)
 count-snoc k T [] a = refl
 count-snoc k T (b ∷ u) a = go (is (T .class b) k) (is (T .class a) k) (count-snoc k T u a)
   where
-    go : (x y : Bool) → count k T (u ++ a ∷ []) ≡ cond y (suc (count k T u)) (count k T u)
-        → cond x (suc (count k T (u ++ a ∷ []))) (count k T (u ++ a ∷ []))
-        ≡ cond y (suc (cond x (suc (count k T u)) (count k T u))) (cond x (suc (count k T u)) (count k T u))
+    go : (x y : Bool) → tally k T (u ++ a ∷ []) ≡ cond y (suc (tally k T u)) (tally k T u)
+        → cond x (suc (tally k T (u ++ a ∷ []))) (tally k T (u ++ a ∷ []))
+        ≡ cond y (suc (cond x (suc (tally k T u)) (tally k T u))) (cond x (suc (tally k T u)) (tally k T u))
     go true true h = ap suc h
     go true false h = ap suc h
     go false true h = h
@@ -53,11 +54,11 @@ deeper-count return c r d h e = let n = eqb-false d 0 e in omega arith
 deeper-count internal c r d h e = h
 
 -- after a taken message the session is as deep as the message
-taken-count : {T : Table} {u z : Word} {m : Moment} → Taken T u z m → count call T u ≡ count return T u + m .depth
+taken-count : {T : Table} {u z : Word} {m : Moment} → Taken T u z m → tally call T u ≡ tally return T u + m .depth
 taken-count none = omega arith
 taken-count {T} (more {u} {z} {m} a room t e) =
     let f = fails (stepTests T room m a) refl e in
-    let h = deeper-count (T .class a) (count call T u) (count return T u) (m .depth) (taken-count t) (f .1 .0) in
+    let h = deeper-count (T .class a) (tally call T u) (tally return T u) (m .depth) (taken-count t) (f .1 .0) in
     rw (count-snoc call T u a, count-snoc return T u a) h
 
 pub taken-depth : {T : Table} {u z : Word} {m : Moment} → Taken T u z m → m .depth ≡ depth T u

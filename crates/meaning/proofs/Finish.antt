@@ -1,4 +1,5 @@
--- Finish gives the number of the first sentence that holds, and accepts exactly what is allowed alone: demand 2. Assumes nothing.
+-- Finish gives the number of the first sentence that holds, and accepts what alone is allowed: demand 2.
+-- Assumes nothing.
 use mathlib.Core.Path.{_≡_, refl, sym, _∙_, ap, subst}
 use mathlib.Core.Bool.{Bool, true, false, cond, not, true≢false, false≢true}
 use mathlib.Core.Logic.{inr, _↔_}
@@ -7,13 +8,13 @@ use Prim.Native.Nat.{ℕ, _<_, _≤_}
 use native.Mathlib.Omega.{arith}
 use lib.Dec.{eqb, ltb}
 use lib.ListN.{length}
-use borrow.Author.Tests.{eqb-true, eqb-false, eq-eqb, ne-eqb, ltb-true, ltb-false, lt-ltb, not-false, not-true}
-use Rattle.words.specs.Lists.{_among_, each, only, any, isEmpty}
+use borrow.Author.Tests.{eqb-true, eq-eqb, ltb-false, not-false}
+use Rattle.words.specs.Lists.{_among_, each, only, anyOf, isEmpty}
 use Rattle.words.specs.Words.{Word, common}
 use Rattle.words.specs.Order.{sameWord}
-use Rattle.words.proofs.Lists.{each-in, each-out, only-in, only-out, any-in, any-out, empty-in, empty-out, first-of}
+use Rattle.words.proofs.Lists.{each-in, each-out, only-in, only-out, any-in, any-out, first-of}
 use Rattle.words.proofs.Common.{common-all}
-use Rattle.words.proofs.Order.{same-out}
+use Rattle.words.proofs.Order.{same-in, same-out}
 use Rattle.meaning.specs.Table.{Table, Limits, Good}
 use Rattle.meaning.specs.Runs.{Config, Run, Accepting, Allowed, depth}
 use Rattle.meaning.specs.Trails.{Trail, ground, over, trail}
@@ -21,21 +22,22 @@ use Rattle.meaning.specs.Living.{Place}
 use Rattle.meaning.specs.Answers.{Moment, Taken, accepts, accepted, finishTests, finishNumber, finish}
 use Rattle.meaning.specs.Sentences.{First, Agreed, Ambiguous, finishSentences, Only}
 use Rattle.meaning.proofs.Trails.{At, run-at}
-use Rattle.meaning.proofs.First.{Match, first-exact, fails}
+use Rattle.meaning.proofs.Tests.{Exact, exact-as, eqb-exact, ltb-exact, same-exact, not-exact, any-exact}
+use Rattle.meaning.proofs.Tests.{empty-exact, Match, first-exact, fails}
 use Rattle.meaning.proofs.Depth.{run-depth, taken-depth}
 use Rattle.meaning.proofs.Moment.{holds}
-use Rattle.meaning.proofs.Stands.{stands, runs-of, agreed-one, differ-in, differ-out}
+use Rattle.meaning.proofs.Stands.{stands, runs-of, agreed-one}
 use Rattle.meaning.proofs.Step.{sent-agreed}
 
 -- a configuration at the top of a trail accepts exactly when the trail does
-accepts-exact : (T : Table) (c : Config) (t : Trail) → At c t → (accepts T t ≡ true) ↔ Accepting T c
+accepts-exact : (T : Table) (c : Config) (t : Trail) → At c t → Exact (Accepting T c) (accepts T t)
 accepts-exact T c (ground q) h = (
+  λ a. any-in (eqb q) (T .final) (a .final) (eq-eqb q (c .state) (sym (h .state))),
   λ e.
       let x = any-out (eqb q) (T .final) e in
       record { final = Memᴰ·cast (h .state ∙ eqb-true q (x .0) (x .2)) (x .1); empty = h .stack },
-  λ a. any-in (eqb q) (T .final) (a .final) (eq-eqb q (c .state) (sym (h .state))),
 )
-accepts-exact T c (over q m t) h = (λ e. absurd (false≢true e), λ a. absurd (cons≢nil (sym (h .stack) ∙ a .empty)))
+accepts-exact T c (over q m t) h = (λ a. absurd (cons≢nil (sym (h .stack) ∙ a .empty)), λ e. absurd (false≢true e))
 
 module _ {L : Limits} {T : Table} (good : Good L T) {u z : Word} {m : Moment} (t : Taken T u z m) where
   abbrev A : List Word
@@ -51,7 +53,7 @@ module _ {L : Limits} {T : Table} (good : Good L T) {u z : Word} {m : Moment} (t
       record {
         run = r .run;
         accepts =
-            accepts-exact T (r .run .end) (trail (r .run)) (run-at (r .run)) .0
+            accepts-exact T (r .run .end) (trail (r .run)) (run-at (r .run)) .1
             (subst (λ (s : Trail). accepts T s ≡ true) (sym (r .trail)) (o .0));
         gives = r .output ∙ ap (λ (p : Place). z ++ p .output) (sym (o .1)) ∙ ap (λ (v : Word). z ++ v) (x .2);
       }
@@ -59,7 +61,8 @@ module _ {L : Limits} {T : Table} (good : Good L T) {u z : Word} {m : Moment} (t
   run-accepted : (r : Run T u) → Accepting T (r .end) → (w : Word) × (w among A) × (r .end .output ≡ z ++ w)
   run-accepted r a =
       let s = stands T u z (m .waiting) (holds good t .runs) r in
-      let e = subst (λ (s : Trail). accepts T s ≡ true) (s .trail) (accepts-exact T (r .end) (trail r) (run-at r) .1 a) in (
+      let f = accepts-exact T (r .end) (trail r) (run-at r) .0 a in
+      let e = subst (λ (s : Trail). accepts T s ≡ true) (s .trail) f in (
         s .place .output,
         Memᴰ·map (λ p. p .output) (each-in (λ p. only (accepts T (p .trail)) p) (m .waiting) (s .listed) (only-in e)),
         s .output,
@@ -71,80 +74,78 @@ module _ {L : Limits} {T : Table} (good : Good L T) {u z : Word} {m : Moment} (t
       Memᴰ·cast (append-cancel-left z w (x .0) (sym (a .gives) ∙ x .2)) (x .1)
 
   -- the sentences
-  closed-exact : (not (eqb (m .depth) 0) ≡ true) ↔ (0 < depth T u)
-  closed-exact = (
-    λ e. let n = eqb-false (m .depth) 0 (not-true (eqb (m .depth) 0) e) in let d = taken-depth t in omega arith,
-    λ l. ap not (ne-eqb (m .depth) 0 (λ e. let d = taken-depth t in omega arith)),
-  )
+  closed-exact : Exact (0 < depth T u) (not (eqb (m .depth) 0))
+  closed-exact =
+      let d = taken-depth t in
+      exact-as (λ (f : m .depth ≡ 0 → ⊥). omega arith, λ l e. omega arith) (not-exact (eqb-exact (m .depth) 0))
 
   flat : not (eqb (m .depth) 0) ≡ false → depth T u ≡ 0
   flat e = sym (taken-depth t) ∙ eqb-true (m .depth) 0 (not-false (eqb (m .depth) 0) e)
 
-  final-exact : depth T u ≡ 0 → (isEmpty A ≡ true) ↔ ((r : Run T u) → r .end .state among T .final → ⊥)
-  final-exact d = (to, fro)
+  final-exact : depth T u ≡ 0 → Exact ((r : Run T u) → r .end .state among T .final → ⊥) (isEmpty A)
+  final-exact d = exact-as (to, λ f w i. let a = accepted-allowed w i in f (a .run) (a .accepts .final)) (empty-exact A)
     where
-      none-in : (w : Word) → w among [] → ⊥
-      none-in w i = elim i [ ]
-
       no-stack : (s : List ℕ) → length s ≡ 0 → s ≡ []
       no-stack [] e = refl
       no-stack (n ∷ s) e = absurd (omega arith)
 
-      to : isEmpty A ≡ true → (r : Run T u) → r .end .state among T .final → ⊥
-      to e r f =
+      to : ((w : Word) → w among A → ⊥) → (r : Run T u) → r .end .state among T .final → ⊥
+      to none r f =
           let x = run-accepted r (record { final = f; empty = no-stack (r .end .stack) (run-depth r ∙ d) }) in
-          none-in (x .0) (subst (λ (l : List Word). x .0 among l) (empty-out A e) (x .1))
+          none (x .0) (x .1)
 
-      fro : ((r : Run T u) → r .end .state among T .final → ⊥) → isEmpty A ≡ true
-      fro f = empty-in A (λ w i. let a = accepted-allowed w i in f (a .run) (a .accepts .final))
+  abbrev Differ : Type 0
+  Differ = (v : Word) × (v among A) × ((w : Word) × (w among A) × (v ≡ w → ⊥))
 
-  ambiguous-exact : (any (λ v. any (λ w. not (sameWord v w)) A) A ≡ true) ↔ Ambiguous T u
-  ambiguous-exact = (to, fro)
+  differ-exact : Exact Differ (anyOf (λ v. anyOf (λ w. not (sameWord v w)) A) A)
+  differ-exact = any-exact A (λ v i. any-exact A (λ w j. not-exact (same-exact v w)))
+
+  ambiguous-exact : Exact (Ambiguous T u) (anyOf (λ v. anyOf (λ w. not (sameWord v w)) A) A)
+  ambiguous-exact = exact-as (to, fro) differ-exact
     where
-      test : Word → Word → Bool
-      test v w = not (sameWord v w)
-
-      to : any (λ v. any (test v) A) A ≡ true → Ambiguous T u
-      to e =
-          let x = any-out (λ v. any (test v) A) A e in
-          let y = any-out (test (x .0)) A (x .2) in
+      to : Differ → Ambiguous T u
+      to x =
+          let y = x .2 in
           let a = accepted-allowed (x .0) (x .1) in
           let b = accepted-allowed (y .0) (y .1) in (
             a .run,
             b .run,
             a .accepts,
             b .accepts,
-            λ d. differ-out (x .0) (y .0) (y .2) (append-cancel-left z (x .0) (y .0) (sym (a .gives) ∙ d ∙ b .gives)),
+            λ d. y .2 (append-cancel-left z (x .0) (y .0) (sym (a .gives) ∙ d ∙ b .gives)),
           )
 
-      fro : Ambiguous T u → any (λ v. any (test v) A) A ≡ true
+      fro : Ambiguous T u → Differ
       fro c =
           let x = run-accepted (c .0) (c .2) in
           let y = run-accepted (c .1) (c .3) in
-          any-in (λ v. any (test v) A) A (x .1)
-          (any-in (test (x .0)) A (y .1)
-          (differ-in (x .0) (y .0) (λ d. c .4 (x .2 ∙ ap (λ (w : Word). z ++ w) d ∙ sym (y .2)))))
+          (x .0, x .1, (y .0, y .1, λ e. c .4 (x .2 ∙ ap (λ (w : Word). z ++ w) e ∙ sym (y .2))))
 
   -- where two do not differ, the common beginning is the word itself
-  agreeing : any (λ v. any (λ w. not (sameWord v w)) A) A ≡ false → (w : Word) → w among A → common A ≡ w
+  agreeing : anyOf (λ v. anyOf (λ w. not (sameWord v w)) A) A ≡ false → (w : Word) → w among A → common A ≡ w
   agreeing e w i = common-all A i (λ v j. same-out v w (go v j (sameWord v w) refl))
     where
-      go : (v : Word) → v among A → (b : Bool) → sameWord v w ≡ b → sameWord v w ≡ true
-      go v j true f = f
+      go : (v : Word) → v among A → (b : Bool) → sameWord v w ≡ b → b ≡ true
+      go v j true f = refl
       go v j false f =
-          absurd (true≢false (sym (any-in (λ v. any (λ w. not (sameWord v w)) A) A j (any-in (λ w. not (sameWord v w)) A i (ap not f))) ∙ e))
+          absurd (true≢false (sym (differ-exact .0 (v, j, (w, i, λ d. true≢false (sym (same-in d) ∙ f)))) ∙ e))
 
   module _ (room : ℕ) where
+    abbrev NoRoom : Type 0
+    NoRoom = (y : Word) × (w : Word) × Agreed T u y × Allowed T u (y ++ w) × (room < length w)
+
     room-exact : {v : Word} → v among A → ((w : Word) → w among A → common A ≡ w)
-        → (ltb room (length (common A)) ≡ true)
-        ↔ ((y : Word) × (w : Word) × Agreed T u y × Allowed T u (y ++ w) × (room < length w))
-    room-exact {v} i h = (
-      λ e. (z, v, sent-agreed good t, accepted-allowed v i, subst (λ (w : Word). room < length w) (h v i) (ltb-true room (length (common A)) e)),
-      λ n.
-          let d : n .0 ≡ z = agreed-one (n .2) (sent-agreed good t) in
-          let w = allowed-accepted (n .1) (subst (λ (y : Word). Allowed T u (y ++ n .1)) d (n .3)) in
-          lt-ltb room (length (common A)) (subst (λ (w : Word). room < length w) (sym (h (n .1) w)) (n .4)),
-    )
+        → Exact NoRoom (ltb room (length (common A)))
+    room-exact {v} i h = exact-as (to, fro) (ltb-exact room (length (common A)))
+      where
+        to : room < length (common A) → NoRoom
+        to l = (z, v, sent-agreed good t, accepted-allowed v i, subst (λ (w : Word). room < length w) (h v i) l)
+
+        fro : NoRoom → room < length (common A)
+        fro n =
+            let d : n .0 ≡ z = agreed-one (n .2) (sent-agreed good t) in
+            let w = allowed-accepted (n .1) (subst (λ (y : Word). Allowed T u (y ++ n .1)) d (n .3)) in
+            subst (λ (w : Word). room < length w) (sym (h (n .1) w)) (n .4)
 
     finish-match : Match (finishTests T room m) (finishSentences T room u)
     finish-match = (
@@ -193,7 +194,7 @@ module _ {L : Limits} {T : Table} (good : Good L T) {u z : Word} {m : Moment} (t
         gives : (r : Run T u) → Accepting T (r .end) → r .end .output ≡ z ++ w
         gives r a = o .alone (r .end .output) (record { run = r; accepts = a; gives = refl })
 
-        no-room : (y : Word) × (x : Word) × Agreed T u y × Allowed T u (y ++ x) × (room < length x) → ⊥
+        no-room : NoRoom → ⊥
         no-room n =
             let d : n .0 ≡ z = agreed-one (n .2) (sent-agreed good t) in
             let e : z ++ n .1 ≡ z ++ w = ap (λ (y : Word). y ++ n .1) (sym d) ∙ o .alone (n .0 ++ n .1) (n .3) in
@@ -201,7 +202,7 @@ module _ {L : Limits} {T : Table} (good : Good L T) {u z : Word} {m : Moment} (t
             let g = n .4 in
             omega arith
 
-    -- demand 2: finish accepts with an output exactly when accepting runs exist and all give it (and there is room for what waits)
+    -- demand 2: finish accepts with an output exactly when accepting runs exist and all give it, if it has room
     abbrev pub Gives : Word → Type 0
     Gives w = _≡_ {A = ℕ × Word} (finish T room m) (0, w)
 

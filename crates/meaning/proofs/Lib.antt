@@ -1,11 +1,20 @@
--- What follows of the definitions in `specs/`, one family of facts a file.
+-- What follows of the definitions in `specs/`, one family of facts a file, each building on those before it.
 pub mod Shift
+pub mod Tests
 pub mod Trails
+pub mod Nesting
+pub mod Reading
 pub mod Living
-pub mod First
 pub mod Depth
 pub mod Moment
 pub mod Stands
 pub mod Step
 pub mod Finish
+pub mod Frames
+pub mod Joined
+pub mod Cuts
+pub mod Stages
+pub mod JoinExact
+pub mod JoinNumber
+pub mod JoinGood
 pub mod Worked

@@ -2,20 +2,18 @@
 use mathlib.Core.Path.{_≡_, refl, sym, _∙_, ap}
 use mathlib.Core.List.{List, [], _∷_, _++_, map, map-map, map-id, append-assoc, append-nil, append-cancel-left}
 use mathlib.Core.List.{Memᴰ·map}
-use mathlib.Core.Bool.{_&&_}
 use Prim.Native.Nat.{ℕ}
-use lib.Dec.{eqb}
 use lib.ListN.{length, drop}
 use lib.Seq.{drop-append-seam}
-use Rattle.words.specs.Lists.{_among_, each, only}
+use Rattle.words.specs.Lists.{_among_}
 use Rattle.words.specs.Words.{Word, common}
-use Rattle.words.proofs.Lists.{each-same, each-map, map-each, map-same, map-only, first-of}
+use Rattle.words.proofs.Lists.{choices-map, map-same, first-of}
 use Rattle.words.proofs.Common.{common-begins, common-ahead}
-use Rattle.meaning.specs.Table.{Row, Table, Limits, Good}
+use Rattle.meaning.specs.Table.{Table, Limits, Good}
 use Rattle.meaning.specs.Trails.{ground, carry}
-use Rattle.meaning.specs.Living.{Place, place, fits, moves, moved, begun, living}
+use Rattle.meaning.specs.Living.{Place, place, can, goes, moved, begun, living}
 use Rattle.meaning.specs.Answers.{Moment, opened, outputs, sending, held, stepTests, Taken, none, more}
-use Rattle.meaning.proofs.First.{fails}
+use Rattle.meaning.proofs.Tests.{fails}
 use Rattle.meaning.proofs.Living.{living-snoc}
 
 -- places with a word put before each output
@@ -28,24 +26,16 @@ ahead z X = map (front z) X
 ahead-ahead : (z y : Word) (X : List Place) → ahead z (ahead y X) ≡ ahead (z ++ y) X
 ahead-ahead z y X =
     map-map (front z) (front y) X
-    ∙ map-same (λ p. front z (front y p)) (front (z ++ y)) X (λ p m. ap (place (p .trail)) (sym (append-assoc z y (p .output))))
+    ∙ map-same (λ p. front z (front y p)) (front (z ++ y)) X
+    (λ p m. ap (place (p .trail)) (sym (append-assoc z y (p .output))))
 
 -- rows move places in the same way whatever stands before their outputs
-moves-front : (T : Table) (z : Word) (a : ℕ) (p : Place) (r : Row) → moves T a (front z p) r ≡ map (front z) (moves T a p r)
-moves-front T z a p r =
-    let b = eqb (r .symbol) a && fits (T .class a) r (p .trail) in
-    let t = carry (T .class a) r (p .trail) in
-    ap (λ (o : Word). only b (place t o)) (append-assoc z (p .output) (r .word))
-    ∙ sym (map-only (front z) b (place t (p .output ++ r .word)))
-
 moved-ahead : (T : Table) (z : Word) (X : List Place) (a : ℕ) → moved T (ahead z X) a ≡ ahead z (moved T X a)
 moved-ahead T z X a =
-    each-map (λ p. each (moves T a p) (T .rows)) (front z) X
-    ∙ each-same (λ p. each (moves T a (front z p)) (T .rows)) (λ p. map (front z) (each (moves T a p) (T .rows))) X
-    (λ p.
-    each-same (moves T a (front z p)) (λ r. map (front z) (moves T a p r)) (T .rows) (moves-front T z a p)
-    ∙ sym (map-each (front z) (moves T a p) (T .rows)))
-    ∙ sym (map-each (front z) (λ p. each (moves T a p) (T .rows)) X)
+    choices-map (front z) (front z) (can T a) (can T a) (goes T a) (goes T a)
+    (λ p r. refl)
+    (λ p r e. ap (place (carry (T .class a) r (p .trail))) (append-assoc z (p .output) (r .word)))
+    X (T .rows)
 
 outputs-ahead : (z : Word) (X : List Place) → outputs (ahead z X) ≡ map (λ w. z ++ w) (outputs X)
 outputs-ahead z X = map-map (λ p. p .output) (front z) X ∙ sym (map-map (λ w. z ++ w) (λ p. p .output) X)

@@ -1,4 +1,4 @@
--- The trail of a run is what document 01 says: the pair at a level is that of the last configuration there, all after it being deeper.
+-- The trail of a run is what document 01 says: at each level the pair of the last configuration there.
 -- Assumes nothing.
 use mathlib.Core.Path.{_≡_, refl, sym, _∙_, ap}
 use mathlib.Core.Logic.{_⊎_, inl, inr}
@@ -12,7 +12,7 @@ use Rattle.words.specs.Words.{Word}
 use Rattle.meaning.specs.Table.{Class, unused, call, return, internal, Row, Table}
 use Rattle.meaning.specs.Runs.{Config, Takes, Steps, stop, next, fresh, Run}
 use Rattle.meaning.specs.Trails.{Trail, ground, over, Pair, top, height, stackOf, seat, carry, trailFrom}
-use Rattle.meaning.specs.Trails.{trailKey, trail, visited, topMarker, LastAt}
+use Rattle.meaning.specs.Trails.{trailKey, trail}
 
 -- a configuration stands at the top of a trail
 pub record At (c : Config) (t : Trail) : Type 0 where
@@ -50,7 +50,8 @@ pub steps-at : (T : Table) {c e : Config} {u : Word} {ρ : List Row} → Steps T
     → At e (trailFrom T t ρ)
 steps-at T stop t h = h
 steps-at T (next {a} {u} {r} {ρ} {c} {d} {e} v s) t h =
-    rw (trail-next T t r ρ (v .reads)) (steps-at T s (carry (T .class a) r t) (takes-at (T .class a) r c d t h (v .takes)))
+    let k = T .class a in
+    rw (trail-next T t r ρ (v .reads)) (steps-at T s (carry k r t) (takes-at k r c d t h (v .takes)))
 
 pub run-at : {T : Table} {u : Word} (r : Run T u) → At (r .end) (trail r)
 run-at {T} r = steps-at T (r .steps) (ground (r .start)) (fresh-at (r .start))
@@ -67,6 +68,26 @@ trailKey-one (over q m t) (over p n s) e =
     let b = head-eq-of-cons-eq (tail-eq-of-cons-eq e) in
     let c = trailKey-one t s (tail-eq-of-cons-eq (tail-eq-of-cons-eq e)) in
     cc
+
+-- "The pair at level i below d is that just before the still open call that led to level i+1. The pair at level d is
+-- the present one": of the configurations of a run, the last at depth `i` has the pair `p`, and all after it are deeper
+abbrev pub visited : {T : Table} {c e : Config} {u : Word} {ρ : List Row} → Steps T c u ρ e → List Config
+visited (stop {c}) = c ∷ []
+visited (next {c = c} v s) = c ∷ visited s
+
+abbrev pub topMarker : List ℕ → ℕ
+topMarker [] = 0
+topMarker (m ∷ ms) = m
+
+pub record LastAt (i : ℕ) (p : Pair) (H : List Config) : Type 0 where
+  pub before : List Config
+  pub at : Config
+  pub after : List Config
+  pub parts : H ≡ before ++ at ∷ after
+  pub level : length (at .stack) ≡ i
+  pub state : at .state ≡ p .state
+  pub marker : topMarker (at .stack) ≡ p .marker
+  pub deeper : (c : Config) → c among after → i < length (c .stack)
 
 -- a trail is the lower part of another
 pub data Under (t : Trail) : Trail → Type 0 where
@@ -98,7 +119,8 @@ present H d t h =
       deeper = λ c m. elim m [ ];
     }
 
-stays : (i : ℕ) (p : Pair) (H : List Config) (d : Config) → LastAt i p H → i < length (d .stack) → LastAt i p (H ++ d ∷ [])
+stays : (i : ℕ) (p : Pair) (H : List Config) (d : Config) → LastAt i p H → i < length (d .stack)
+    → LastAt i p (H ++ d ∷ [])
 stays i p H d l lt =
     record {
       before = l .before;

@@ -16,8 +16,8 @@ use Rattle.meaning.specs.Joining.{joined, fileSize, joinNumber}
 abbrev Told : Type 0
 Told = ℕ × Word
 
--- what is expected of a message, with the room lent at each call: what each symbol is told (a refused one is passed over), the links
--- after the last, and what finish is told
+-- what is expected of a message, with the room lent at each call: what each symbol is told (after a refused one the
+-- next is tried), the links after the last, and what finish is told
 record Message : Type 0 where
   table : Table
   symbols : Word
@@ -26,12 +26,14 @@ record Message : Type 0 where
   links : ℕ
   ending : Told
 
--- what is expected of joining two tables: the number; markers, rows and bytes of the joined file
+-- what is expected of joining two tables: the number; where it is 0 also caps, markers, rows and size of the file
 record Joint : Type 0 where
   first : Table
   second : Table
   room : ℕ
   number : ℕ
+  depthCap : ℕ
+  waitingCap : ℕ
   markers : ℕ
   rows : List Row
   size : ℕ
@@ -67,8 +69,10 @@ passes (message c) =
     && sameTold (finish (c .table) (c .room) (s .moment) ∷ []) (c .ending ∷ [])
 passes (joining c) =
     let J = joined (c .first) (c .second) in
-    eqb (joinNumber edition1 (c .room) (c .first) (c .second)) (c .number)
-    && cond (eqb (c .number) 0) (eqb (J .markers) (c .markers) && sameRows (J .rows) (c .rows) && eqb (fileSize J) (c .size)) true
+    let caps = eqb (J .depthCap) (c .depthCap) && eqb (J .waitingCap) (c .waitingCap) in
+    let file = eqb (J .markers) (c .markers) && sameRows (J .rows) (c .rows) && eqb (fileSize J) (c .size) in
+    let n = joinNumber edition1 (c .room) (c .first) (c .second) in
+    eqb n (c .number) && cond (eqb n 0) (caps && file) true
 
 -- the tables
 
@@ -117,38 +121,48 @@ torn = table 4 1 4 (0 ∷ []) (3 ∷ []) (ones ++ row 10 0 1 1 (79 ∷ 74 ∷ []
 abbrev fork : Word → Word → Table
 fork v w = table 3 0 4 (0 ∷ []) (1 ∷ 2 ∷ []) (row 1 0 1 0 v ∷ row 1 0 2 0 w ∷ [])
 
--- "eight starting states, each with seven empty-word rows of one call to states 0 to 6", and perhaps one row more, 0 to 7
+-- "eight starting states, each with seven empty-word rows of one call to states 0 to 6", and "one row more, 0 to 7"
 abbrev eight : List ℕ
 eight = 0 ∷ 1 ∷ 2 ∷ 3 ∷ 4 ∷ 5 ∷ 6 ∷ 7 ∷ []
 
-abbrev crowd : List Row → Table
-crowd more =
-    table 8 1 4 eight []
+abbrev crowd : List ℕ → List Row → Table
+crowd start more =
+    table 9 1 4 start []
     (each (λ p. map (λ q. row 10 p q 1 []) (0 ∷ 1 ∷ 2 ∷ 3 ∷ 4 ∷ 5 ∷ 6 ∷ []) ++ cond (eqb p 0) more []) eight)
 
--- `(` 40 writes `[{`, `)` 41 writes the given word; `[` 91, `{` 123, `}` 125, `]` 93
-abbrev one : (ℕ → Class) → ℕ → List Row → Table
-one k m rs =
+-- two starting states, from each call 10 to state 2 with one marker: one state and stack, two trails
+abbrev twoTrails : Table
+twoTrails = table 3 1 4 (0 ∷ 1 ∷ []) (2 ∷ []) (row 10 0 2 1 (97 ∷ []) ∷ row 10 1 2 1 (98 ∷ []) ∷ [])
+
+-- one state, which starts and is final; `(` 40, `)` 41, `<` 60, `>` 62 and `[` 91, `]` 93, `{` 123, `}` 125
+abbrev one : ℕ → ℕ → (ℕ → Class) → ℕ → List Row → Table
+one depth waiting k m rs =
     record {
       states = 1;
       markers = m;
-      depthCap = 4;
-      waitingCap = 4;
+      depthCap = depth;
+      waitingCap = waiting;
       class = k;
       starting = 0 ∷ [];
       final = 0 ∷ [];
       rows = rs;
     }
 
-abbrev firstHop : Word → Table
-firstHop w =
-    one (λ a. cond (eqb a 40) call (cond (eqb a 41) return unused)) 1
-    (row 40 0 0 1 (91 ∷ 123 ∷ []) ∷ row 41 0 0 1 w ∷ [])
+abbrev firstHop : List Row → Table
+firstHop rs = one 4 4 (λ a. cond (eqb a 40 || eqb a 60) call (cond (eqb a 41 || eqb a 62) return unused)) 1 rs
 
 abbrev secondHop : Table
 secondHop =
-    one (λ a. cond (eqb a 91 || eqb a 123) call (cond (eqb a 93 || eqb a 125) return unused)) 2
+    one 5 3 (λ a. cond (eqb a 91 || eqb a 123) call (cond (eqb a 93 || eqb a 125) return unused)) 2
     (row 91 0 0 1 (97 ∷ []) ∷ row 93 0 0 1 (100 ∷ []) ∷ row 123 0 0 2 (98 ∷ []) ∷ row 125 0 0 2 (99 ∷ []) ∷ [])
+
+-- `(` writes `[{`, `)` writes the given word
+abbrev round : Word → List Row
+round w = row 40 0 0 1 (91 ∷ 123 ∷ []) ∷ row 41 0 0 1 w ∷ []
+
+-- and `<` writes `{[`, `>` writes `]}`
+abbrev pointed : List Row
+pointed = row 60 0 0 1 (123 ∷ 91 ∷ []) ∷ row 62 0 0 1 (93 ∷ 125 ∷ []) ∷ []
 
 -- the cases
 
@@ -156,18 +170,26 @@ abbrev case : Table → Word → ℕ → List Told → ℕ → Told → Case
 case T u room told links ending =
     message (record { table = T; symbols = u; room = room; told = told; links = links; ending = ending })
 
-abbrev join : Word → ℕ → ℕ → Case
-join w room number =
+abbrev join : List Row → ℕ → ℕ → ℕ → List Row → ℕ → Case
+join rs room number markers rows size =
     joining
     (record {
-      first = firstHop w;
+      first = firstHop rs;
       second = secondHop;
       room = room;
       number = number;
-      markers = 1;
-      rows = row 40 0 0 1 (97 ∷ 98 ∷ []) ∷ row 41 0 0 1 (99 ∷ 100 ∷ []) ∷ [];
-      size = 320;
+      depthCap = 4;
+      waitingCap = 3;
+      markers = markers;
+      rows = rows;
+      size = size;
     })
+
+abbrev roundJoined : List Row
+roundJoined = row 40 0 0 1 (97 ∷ 98 ∷ []) ∷ row 41 0 0 1 (99 ∷ 100 ∷ []) ∷ []
+
+abbrev pointedJoined : List Row
+pointedJoined = row 60 0 0 2 (98 ∷ 97 ∷ []) ∷ row 62 0 0 2 (100 ∷ 99 ∷ []) ∷ []
 
 abbrev cases : List Case
 cases =
@@ -184,12 +206,15 @@ cases =
     ∷ case (fork (97 ∷ []) (98 ∷ [])) (1 ∷ []) 9 ((0, []) ∷ []) 2 (13, [])
     ∷ case (fork (97 ∷ []) (97 ∷ 98 ∷ [])) (1 ∷ []) 9 ((0, 97 ∷ []) ∷ []) 2 (13, [])
     ∷ case (fork (97 ∷ []) (97 ∷ [])) (1 ∷ []) 9 ((0, 97 ∷ []) ∷ []) 2 (0, [])
-    ∷ case (crowd []) (10 ∷ []) 9 ((0, []) ∷ []) 64 (11, [])
-    ∷ case (crowd (row 10 0 7 1 [] ∷ [])) (10 ∷ []) 9 ((7, []) ∷ []) 8 (12, [])
-    ∷ join (125 ∷ 93 ∷ []) 320 0
-    ∷ join (125 ∷ 93 ∷ []) 319 10
-    ∷ join (125 ∷ []) 320 14
-    ∷ case (joined (firstHop (125 ∷ 93 ∷ [])) secondHop) (40 ∷ 40 ∷ 41 ∷ 41 ∷ []) 9
+    ∷ case (crowd eight []) (10 ∷ []) 9 ((0, []) ∷ []) 64 (11, [])
+    ∷ case (crowd (eight ++ 8 ∷ []) []) (10 ∷ []) 9 ((0, []) ∷ []) 64 (11, [])
+    ∷ case (crowd eight (row 10 0 7 1 [] ∷ [])) (10 ∷ []) 9 ((7, []) ∷ []) 8 (12, [])
+    ∷ case twoTrails (10 ∷ []) 9 ((0, []) ∷ []) 4 (11, [])
+    ∷ join (round (125 ∷ 93 ∷ [])) 320 0 1 roundJoined 320
+    ∷ join (round (125 ∷ 93 ∷ [])) 319 10 1 [] 0
+    ∷ join (round (125 ∷ [])) 320 14 1 [] 0
+    ∷ join (round (125 ∷ 93 ∷ []) ++ pointed) 340 0 2 (roundJoined ++ pointedJoined) 340
+    ∷ case (joined (firstHop (round (125 ∷ 93 ∷ []))) secondHop) (40 ∷ 40 ∷ 41 ∷ 41 ∷ []) 9
     ((0, 97 ∷ 98 ∷ []) ∷ (0, 97 ∷ 98 ∷ []) ∷ (0, 99 ∷ 100 ∷ []) ∷ (0, 99 ∷ 100 ∷ []) ∷ [])
     1
     (0, [])

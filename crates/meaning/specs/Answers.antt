@@ -1,11 +1,11 @@
--- The number that each call must give, and what it sends, computed from the trails of a session with their waiting outputs.
+-- The number that each call must give and what it writes, from the trails of a session and their waiting outputs.
 use mathlib.Core.Path.{_≡_}
 use mathlib.Core.Bool.{Bool, false, cond, _&&_, not}
 use mathlib.Core.List.{List, [], _∷_, _++_, map}
 use Prim.Native.Nat.{ℕ, suc, _-_}
 use lib.Dec.{eqb, ltb}
 use lib.ListN.{length, drop}
-use Rattle.words.specs.Lists.{each, only, any, isEmpty}
+use Rattle.words.specs.Lists.{each, only, anyOf, isEmpty}
 use Rattle.words.specs.Words.{Word, common}
 use Rattle.words.specs.Order.{sameWord, arranged}
 use Rattle.meaning.specs.Table.{Class, unused, call, return, internal, is, Table}
@@ -68,8 +68,8 @@ stepTests T room m a =
     ∷ (is k call && eqb (m .depth) (T .depthCap), 5)
     ∷ (isEmpty X, 6)
     ∷ (ltb linksCap (length (linksOf X)), 7)
-    ∷ (any (λ p. any (clash p) X) X, 8)
-    ∷ (any (λ p. ltb (T .waitingCap) (length (p .output))) (held X), 9)
+    ∷ (anyOf (λ p. anyOf (clash p) X) X, 8)
+    ∷ (anyOf (λ p. ltb (T .waitingCap) (length (p .output))) (held X), 9)
     ∷ (ltb room (length (sending X)), 10)
     ∷ []
 
@@ -83,11 +83,11 @@ sends T m a = sending (moved T (m .waiting) a)
 abbrev pub follows : Table → Moment → ℕ → Moment
 follows T m a = record { depth = deeper (T .class a) (m .depth); waiting = held (moved T (m .waiting) a) }
 
--- "A refusal gives byte count 0 and changes neither session nor output": the number, the bytes, and what the session stands for
+-- "A refusal gives byte count 0 and changes neither session nor output": number, bytes, and what the session stands for
 abbrev pub step : Table → ℕ → Moment → ℕ → ℕ × Word × Moment
 step T room m a = let n = stepNumber T room m a in cond (eqb n 0) (n, sends T m a, follows T m a) (n, [], m)
 
--- a message all taken, symbol by symbol from a fresh session with whatever room: what was sent, and what the session stands for
+-- a message all taken, symbol by symbol from a fresh session: what was sent, and what the session then stands for
 pub data Taken (T : Table) : Word → Word → Moment → Type 0 where
   none : Taken T [] [] (opened T)
   more : {u z : Word} {m : Moment} (a room : ℕ) → Taken T u z m → stepNumber T room m a ≡ 0
@@ -95,7 +95,7 @@ pub data Taken (T : Table) : Word → Word → Moment → Type 0 where
 
 -- "It accepts when its state is final and its stack empty"
 abbrev pub accepts : Table → Trail → Bool
-accepts T (ground q) = any (eqb q) (T .final)
+accepts T (ground q) = anyOf (eqb q) (T .final)
 accepts T (over q m t) = false
 
 abbrev pub accepted : Table → List Place → List Word
@@ -107,7 +107,7 @@ finishTests T room m =
     let X = accepted T (m .waiting) in
     (not (eqb (m .depth) 0), 11)
     ∷ (isEmpty X, 12)
-    ∷ (any (λ v. any (λ w. not (sameWord v w)) X) X, 13)
+    ∷ (anyOf (λ v. anyOf (λ w. not (sameWord v w)) X) X, 13)
     ∷ (ltb room (length (common X)), 10)
     ∷ []
 

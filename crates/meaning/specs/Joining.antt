@@ -4,11 +4,11 @@ use mathlib.Core.List.{List, [], _∷_, _++_, map, reverse}
 use Prim.Native.Nat.{ℕ, zero, suc, _+_, _*_}
 use lib.Dec.{eqb, ltb}
 use lib.ListN.{length}
-use Rattle.words.specs.Lists.{each, only, any, isEmpty}
+use Rattle.words.specs.Lists.{each, only, anyOf, isEmpty}
 use Rattle.words.specs.Words.{Word}
 use Rattle.words.specs.Order.{arranged, rank}
 use Rattle.meaning.specs.Table.{Class, unused, call, return, internal, is, Row, Table, rowKey, Limits}
-use Rattle.meaning.specs.Runs.{Config, config, shifted, Allowed}
+use Rattle.meaning.specs.Runs.{Config, config, shifted, said, Allowed}
 use Rattle.meaning.specs.Answers.{first}
 use Rattle.meaning.specs.Nesting.{nests}
 
@@ -61,8 +61,8 @@ marks A B = arranged markKey (each (λ x. each (pushed A B x) (upTo (B .states))
 abbrev pub number : List Mark → Mark → ℕ
 number L y = suc (rank markKey L y)
 
--- from which stacks a row's word is read: a call's and an internal row's from an empty one, "a return row's reading starts from
--- the list in the popped marker"
+-- from which stacks a row's word is read: "from an empty stack of its own"; "a return row's reading starts from the
+-- list in the popped marker"
 abbrev pub startsOf : List Mark → Class → ℕ → List (List ℕ)
 startsOf L unused m = []
 startsOf L call m = [] ∷ []
@@ -115,16 +115,13 @@ joined A B =
       rows = arranged rowKey (each (λ x. each (rowsOf A B L x) (upTo (B .states))) (A .rows));
     }
 
--- "Words are laid in row order, none shared": what rows write, joined; and the size of the file
-abbrev pub said : List Row → Word
-said ρ = each (λ r. r .word) ρ
-
+-- "Words are laid in row order, none shared"
 abbrev pub fileSize : Table → ℕ
 fileSize T = 300 + 8 * length (T .rows) + length (said (T .rows))
 
 -- "TooLarge exactly when: a word of the first is over 16 bytes; …"
 abbrev pub longWord : ℕ → Table → Bool
-longWord n T = any (λ r. ltb n (length (r .word))) (T .rows)
+longWord n T = anyOf (λ r. ltb n (length (r .word))) (T .rows)
 
 abbrev pub large : Limits → Table → Table → Bool
 large L A J =
@@ -136,14 +133,13 @@ large L A J =
     || ltb (L .words) (length (said (J .rows)))
 
 -- "Join: 1, 14, 15, 10": 14 NotNested, 15 TooLarge, 10 NoRoom, of two good tables, with the room lent for the file
-abbrev pub joinNumber : Limits → ℕ → Table → Table → ℕ
-joinNumber L room A B =
+abbrev pub joinTests : Limits → ℕ → Table → Table → List (Bool × ℕ)
+joinTests L room A B =
     let J = joined A B in
-    first
-    ((not (nests (B .class) A), 14)
-    ∷ (large L A J, 15)
-    ∷ (ltb room (fileSize J), 10)
-    ∷ [])
+    (not (nests (B .class) A), 14) ∷ (large L A J, 15) ∷ (ltb room (fileSize J), 10) ∷ []
+
+abbrev pub joinNumber : Limits → ℕ → Table → Table → ℕ
+joinNumber L room A B = first (joinTests L room A B)
 
 -- demand 3: "exactly what the second allows on some output of the first"
 pub record After (A B : Table) (u w : Word) : Type 0 where

@@ -4,6 +4,6 @@ pub mod Runs
 pub mod Trails
 pub mod Living
 pub mod Answers
-pub mod Sentences
 pub mod Nesting
 pub mod Joining
+pub mod Sentences

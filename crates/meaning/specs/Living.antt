@@ -3,7 +3,7 @@ use mathlib.Core.Bool.{Bool, _&&_, not}
 use mathlib.Core.List.{List, [], _++_, map, foldl}
 use Prim.Native.Nat.{ℕ}
 use lib.Dec.{eqb}
-use Rattle.words.specs.Lists.{each, only, isEmpty}
+use Rattle.words.specs.Lists.{choices, isEmpty}
 use Rattle.words.specs.Words.{Word}
 use Rattle.meaning.specs.Table.{Class, Row, Table}
 use Rattle.meaning.specs.Runs.{shifted}
@@ -21,15 +21,16 @@ place t o = record { trail = t; output = o }
 abbrev pub fits : Class → Row → Trail → Bool
 fits k r t = eqb (top t .state) (r .from) && not (isEmpty (shifted k (r .marker) (stackOf t)))
 
--- where a row takes a place on a symbol: one place, or none
-abbrev pub moves : Table → ℕ → Place → Row → List Place
-moves T a p r =
-    only (eqb (r .symbol) a && fits (T .class a) r (p .trail))
-    (place (carry (T .class a) r (p .trail)) (p .output ++ r .word))
+-- whether a row takes a place on a symbol, and where
+abbrev pub can : Table → ℕ → Place → Row → Bool
+can T a p r = eqb (r .symbol) a && fits (T .class a) r (p .trail)
+
+abbrev pub goes : Table → ℕ → Place → Row → Place
+goes T a p r = place (carry (T .class a) r (p .trail)) (p .output ++ r .word)
 
 -- R-2: "Runs stand by the run they come from (at begin, by state), then by row"
 abbrev pub moved : Table → List Place → ℕ → List Place
-moved T X a = each (λ p. each (moves T a p) (T .rows)) X
+moved T X a = choices (can T a) (goes T a) X (T .rows)
 
 abbrev pub begun : Table → List Place
 begun T = map (λ q. place (ground q) []) (T .starting)

@@ -40,8 +40,8 @@ isZero (some d) = eqb d 0
 abbrev pub nested : (ℕ → Class) → Word → Bool
 nested k w = isZero (level k w 0)
 
--- 000, definition 39. NotNested "exactly when a byte in some word of the first table has class 0 in the second; or an internal row's
--- word isn't well nested by the second's classes; or a call row's and a return row's word, with one marker, aren't"
+-- 000, definition 39. None of: "a byte in some word of the first table has class 0 in the second; or an internal row's
+-- word isn't well nested by the second's classes; or a call row's and a return row's word, with one marker, …, aren't"
 pub record Nests (k : ℕ → Class) (A : Table) : Type 0 where
   pub known : (r : Row) → r among A .rows → (a : ℕ) → a among r .word → k a ≡ unused → ⊥
   pub inner : (r : Row) → r among A .rows → A .class (r .symbol) ≡ internal → Nested k (r .word)

@@ -4,7 +4,7 @@ use mathlib.Core.Bool.{cond}
 use mathlib.Core.List.{List, [], _∷_, _++_}
 use Prim.Native.Nat.{ℕ, _-_, suc}
 use lib.Dec.{eqb}
-use Rattle.words.specs.Lists.{_among_, only}
+use Rattle.words.specs.Lists.{_among_, each, only}
 use Rattle.words.specs.Words.{Word}
 use Rattle.meaning.specs.Table.{Class, unused, call, return, internal, is, Row, Table}
 
@@ -17,8 +17,8 @@ pub record Config : Type 0 where
 abbrev pub config : ℕ → List ℕ → Word → Config
 config q s o = record { state = q; stack = s; output = o }
 
--- "A call row pushes its marker. A return row needs its marker on top and pops it. An internal row doesn't touch the stack":
--- what a row of each class with the marker `m` makes of the stack `s`
+-- "A call row … pushes its marker … A return row needs its marker on top and pops it. An internal row doesn't touch the
+-- stack": what a row of each class with the marker `m` makes of the stack `s`
 abbrev pub Shifts : Class → ℕ → List ℕ → List ℕ → Type 0
 Shifts unused m s t = ⊥
 Shifts call m s t = t ≡ m ∷ s
@@ -51,6 +51,10 @@ pub data Steps (T : Table) : Config → Word → List Row → Config → Type 0 
   next : {a : ℕ} {u : Word} {r : Row} {ρ : List Row} {c d e : Config}
       → Move T a r c d → Steps T d u ρ e → Steps T c (a ∷ u) (r ∷ ρ) e
 
+-- what rows write (000, definition 12: Ω(ρ))
+abbrev pub said : List Row → Word
+said ρ = each (λ r. r .word) ρ
+
 -- "A run starts in any starting state, empty stack, empty output"
 abbrev pub fresh : ℕ → Config
 fresh q = config q [] []
@@ -74,9 +78,9 @@ pub record Allowed (T : Table) (u w : Word) : Type 0 where
   pub gives : run .end .output ≡ w
 
 -- "Depth is calls less returns taken"
-abbrev pub count : Class → Table → Word → ℕ
-count k T [] = 0
-count k T (a ∷ u) = cond (is (T .class a) k) (suc (count k T u)) (count k T u)
+abbrev pub tally : Class → Table → Word → ℕ
+tally k T [] = 0
+tally k T (a ∷ u) = cond (is (T .class a) k) (suc (tally k T u)) (tally k T u)
 
 abbrev pub depth : Table → Word → ℕ
-depth T u = count call T u - count return T u
+depth T u = tally call T u - tally return T u

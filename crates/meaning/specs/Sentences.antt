@@ -7,17 +7,19 @@ use lib.ListN.{length}
 use Rattle.words.specs.Lists.{_among_}
 use Rattle.words.specs.Words.{Word, Begins}
 use Rattle.words.specs.Order.{Rises}
-use Rattle.meaning.specs.Table.{unused, call, return, Table}
-use Rattle.meaning.specs.Runs.{Run, Accepting, Allowed, depth}
+use Rattle.meaning.specs.Table.{unused, call, return, Row, Table, Limits}
+use Rattle.meaning.specs.Runs.{said, Run, Accepting, Allowed, depth}
 use Rattle.meaning.specs.Trails.{trail, Link, links, linkKey}
 use Rattle.meaning.specs.Answers.{linksCap}
+use Rattle.meaning.specs.Nesting.{Nests}
+use Rattle.meaning.specs.Joining.{joined, fileSize}
 
 pub record Sentence : Type 1 where
   pub number : ℕ
   pub holds : Type 0
 
-abbrev pub when : ℕ → Type 0 → Sentence
-when n P = record { number = n; holds = P }
+abbrev pub sentence : ℕ → Type 0 → Sentence
+sentence n P = record { number = n; holds = P }
 
 -- "The first that applies is given"; 0 Taken if none does
 abbrev pub First : List Sentence → ℕ → Type 0
@@ -53,14 +55,14 @@ NoRoom T u v room = (z : Word) × (y : Word) × Agreed T u z × Agreed T v (z ++
 abbrev pub stepSentences : Table → ℕ → Word → ℕ → List Sentence
 stepSentences T room u a =
     let v = u ++ a ∷ [] in
-    when 3 (T .class a ≡ unused)
-    ∷ when 4 ((T .class a ≡ return) × (depth T u ≡ 0))
-    ∷ when 5 ((T .class a ≡ call) × (depth T u ≡ T .depthCap))
-    ∷ when 6 (Run T v → ⊥)
-    ∷ when 7 (Crowded T v)
-    ∷ when 8 (Conflict T v)
-    ∷ when 9 (Backlog T v)
-    ∷ when 10 (NoRoom T u v room)
+    sentence 3 (T .class a ≡ unused)
+    ∷ sentence 4 ((T .class a ≡ return) × (depth T u ≡ 0))
+    ∷ sentence 5 ((T .class a ≡ call) × (depth T u ≡ T .depthCap))
+    ∷ sentence 6 (Run T v → ⊥)
+    ∷ sentence 7 (Crowded T v)
+    ∷ sentence 8 (Conflict T v)
+    ∷ sentence 9 (Backlog T v)
+    ∷ sentence 10 (NoRoom T u v room)
     ∷ []
 
 -- finish, of a message `u` that was taken
@@ -70,13 +72,36 @@ Ambiguous T u =
 
 abbrev pub finishSentences : Table → ℕ → Word → List Sentence
 finishSentences T room u =
-    when 11 (0 < depth T u)
-    ∷ when 12 ((r : Run T u) → r .end .state among T .final → ⊥)
-    ∷ when 13 (Ambiguous T u)
-    ∷ when 10 ((z : Word) × (w : Word) × Agreed T u z × Allowed T u (z ++ w) × (room < length w))
+    sentence 11 (0 < depth T u)
+    ∷ sentence 12 ((r : Run T u) → r .end .state among T .final → ⊥)
+    ∷ sentence 13 (Ambiguous T u)
+    ∷ sentence 10 ((z : Word) × (w : Word) × Agreed T u z × Allowed T u (z ++ w) × (room < length w))
     ∷ []
 
 -- `w` is allowed, and nothing else is
 pub record Only (T : Table) (u w : Word) : Type 0 where
   pub allowed : Allowed T u w
   pub alone : (v : Word) → Allowed T u v → v ≡ w
+
+-- "TooLarge exactly when: a word of the first is over 16 bytes; states over 64; markers over 64; rows over 256; a
+-- joined word over 255 bytes; or the words together over 4,096"
+abbrev pub LongWord : ℕ → Table → Type 0
+LongWord n T = (r : Row) × (r among T .rows) × (n < length (r .word))
+
+abbrev pub TooLarge : Limits → Table → Table → Type 0
+TooLarge L A B =
+    let J = joined A B in
+    LongWord 16 A
+    ⊎ (L .states < J .states)
+    ⊎ (L .markers < J .markers)
+    ⊎ (L .rows < length (J .rows))
+    ⊎ LongWord (L .word) J
+    ⊎ (L .words < length (said (J .rows)))
+
+-- joining, of two good tables
+abbrev pub joinSentences : Limits → ℕ → Table → Table → List Sentence
+joinSentences L room A B =
+    sentence 14 (Nests (B .class) A → ⊥)
+    ∷ sentence 15 (TooLarge L A B)
+    ∷ sentence 10 (room < fileSize (joined A B))
+    ∷ []

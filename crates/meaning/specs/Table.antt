@@ -1,4 +1,4 @@
--- A table: 000, definition 12, and 004, definition 1.2, with the counts and caps of document 01; and what makes it good.
+-- A table: 000, definition 12, and 004, definition 1.2, with the counts and caps of document 01; what makes it good.
 use mathlib.Core.Path.{_≡_}
 use mathlib.Core.Bool.{Bool}
 use mathlib.Core.List.{List, [], _∷_}
@@ -75,7 +75,7 @@ pub record GoodRow (L : Limits) (T : Table) (r : Row) : Type 0 where
   pub to : r .to < T .states
   pub marker : MarkFits (T .class (r .symbol)) (T .markers) (r .marker)
   pub bytes : (b : ℕ) → b among r .word → b < 256
-  pub length : length (r .word) ≤ L .word
+  pub short : length (r .word) ≤ L .word
 
 -- the rules of "The rule file", of the table that a file stands for
 pub record Good (L : Limits) (T : Table) : Type 0 where

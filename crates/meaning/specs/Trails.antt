@@ -1,13 +1,12 @@
 -- Trails and links: document 01, "The meaning of a table".
-use mathlib.Core.Path.{_≡_}
 use mathlib.Core.Option.{Option, some, none}
-use mathlib.Core.List.{List, [], _∷_, _++_}
-use Prim.Native.Nat.{ℕ, suc, _<_}
+use mathlib.Core.List.{List, [], _∷_}
+use Prim.Native.Nat.{ℕ, suc}
 use lib.ListN.{length}
-use Rattle.words.specs.Lists.{_among_, each}
+use Rattle.words.specs.Lists.{each}
 use Rattle.words.specs.Words.{Word}
 use Rattle.meaning.specs.Table.{Class, unused, call, return, internal, Row, Table}
-use Rattle.meaning.specs.Runs.{Config, Steps, stop, next, Run}
+use Rattle.meaning.specs.Runs.{Run}
 
 -- a trail: at level 0 a state alone, else the present state and marker over the trail that the still open call left
 pub data Trail : Type 0 where
@@ -88,23 +87,3 @@ pairKey (some p) = p .state ∷ p .marker ∷ []
 
 abbrev pub linkKey : Link → Word
 linkKey l = l .level ∷ l .here .state ∷ l .here .marker ∷ pairKey (l .below)
-
--- "The pair at level i below d is that just before the still open call that led to level i+1. The pair at level d is the present
--- one": of the configurations of a run, the last at depth `i` has the pair `p`, and all after it are deeper
-abbrev pub visited : {T : Table} {c e : Config} {u : Word} {ρ : List Row} → Steps T c u ρ e → List Config
-visited (stop {c}) = c ∷ []
-visited (next {c = c} v s) = c ∷ visited s
-
-abbrev pub topMarker : List ℕ → ℕ
-topMarker [] = 0
-topMarker (m ∷ ms) = m
-
-pub record LastAt (i : ℕ) (p : Pair) (H : List Config) : Type 0 where
-  pub before : List Config
-  pub at : Config
-  pub after : List Config
-  pub parts : H ≡ before ++ at ∷ after
-  pub level : length (at .stack) ≡ i
-  pub state : at .state ≡ p .state
-  pub marker : topMarker (at .stack) ≡ p .marker
-  pub deeper : (c : Config) → c among after → i < length (c .stack)

@@ -1,10 +1,10 @@
 -- What is among the lists that `each`, `only` and the tests speak of. Assumes nothing.
-use mathlib.Core.Path.{_≡_, refl, sym, _∙_, ap}
+use mathlib.Core.Path.{_≡_, refl, sym, _∙_, ap, ap₂}
 use mathlib.Core.Logic.{_⊎_, inl, inr}
 use mathlib.Core.Bool.{Bool, true, false, _&&_, _||_, false≢true}
-use mathlib.Core.List.{List, [], _∷_, _++_, map, map-append, append-assoc, List·Memᴰ·head, List·Memᴰ·tail}
-use mathlib.Core.List.{Memᴰ·append-left, Memᴰ·append-right, List·Memᴰ·append-cases}
-use Rattle.words.specs.Lists.{_among_, each, only, every, any, isEmpty}
+use mathlib.Core.List.{List, [], _∷_, _++_, map, map-append, append-assoc, List·Memᴰ·head, List·Memᴰ·tail, Memᴰ·cast}
+use mathlib.Core.List.{Memᴰ·of-map, Memᴰ·append-left, Memᴰ·append-right, List·Memᴰ·append-cases}
+use Rattle.words.specs.Lists.{_among_, each, only, every, anyOf, isEmpty, choices, Distinct}
 
 -- tests
 
@@ -18,10 +18,6 @@ split false b e = absurd (false≢true e)
 pub either : (a b : Bool) → (a || b) ≡ true → (a ≡ true) ⊎ (b ≡ true)
 either true b e = inl e
 either false b e = inr e
-
-pub not-true : (b : Bool) → (b ≡ true → ⊥) → b ≡ false
-not-true true f = absurd (f refl)
-not-true false f = refl
 
 -- each
 
@@ -39,21 +35,9 @@ each-out {A} f {y} (z ∷ l) m = go (List·Memᴰ·append-cases (f z) m) (λ n. 
     go (inl n) ih = (z, List·Memᴰ·head refl, n)
     go (inr n) ih = let r = ih n in (r .0, List·Memᴰ·tail (r .1), r .2)
 
-pub each-same : {A B : Type 0} (f g : A → List B) (l : List A) → ((x : A) → f x ≡ g x) → each f l ≡ each g l
-each-same f g [] h = refl
-each-same f g (x ∷ l) h = rw (h x, each-same f g l h)
-
 pub each-append : {A B : Type 0} (f : A → List B) (l m : List A) → each f (l ++ m) ≡ each f l ++ each f m
 each-append f [] m = refl
 each-append f (x ∷ l) m = rw (each-append f l m) (sym (append-assoc (f x) (each f l) (each f m)))
-
-pub each-map : {A B C : Type 0} (f : B → List C) (g : A → B) (l : List A) → each f (map g l) ≡ each (λ x. f (g x)) l
-each-map f g [] = refl
-each-map f g (x ∷ l) = ap (λ (m : List _). f (g x) ++ m) (each-map f g l)
-
-pub map-each : {A B C : Type 0} (g : B → C) (f : A → List B) (l : List A) → map g (each f l) ≡ each (λ x. map g (f x)) l
-map-each g f [] = refl
-map-each g f (x ∷ l) = map-append g (f x) (each f l) ∙ ap (λ (m : List _). map g (f x) ++ m) (map-each g f l)
 
 -- functions that agree on a list make the same of it
 pub map-same : {A B : Type 0} (f g : A → B) (l : List A) → ((x : A) → x among l → f x ≡ g x) → map f l ≡ map g l
@@ -70,9 +54,104 @@ only-out true (List·Memᴰ·head e) = (refl, e)
 only-out true (List·Memᴰ·tail m) = elim m [ ]
 only-out false m = elim m [ ]
 
-pub map-only : {A B : Type 0} (f : A → B) (b : Bool) (x : A) → map f (only b x) ≡ only b (f x)
-map-only f true x = refl
-map-only f false x = refl
+-- choices
+
+module _ {A B C : Type 0} (test : A → B → Bool) (make : A → B → C) where
+  pub record Chosen (X : List A) (Y : List B) (z : C) : Type 0 where
+    pub one : A
+    pub other : B
+    pub first : one among X
+    pub second : other among Y
+    pub passes : test one other ≡ true
+    pub is : z ≡ make one other
+
+  pub choices-out : {z : C} (X : List A) (Y : List B) → z among choices test make X Y → Chosen X Y z
+  choices-out X Y m =
+      let x = each-out (λ x. each (λ y. only (test x y) (make x y)) Y) X m in
+      let y = each-out (λ y. only (test (x .0) y) (make (x .0) y)) Y (x .2) in
+      let o = only-out (test (x .0) (y .0)) (y .2) in
+      record { one = x .0; other = y .0; first = x .1; second = y .1; passes = o .0; is = o .1 }
+
+  pub choices-in : {z : C} (X : List A) (Y : List B) → Chosen X Y z → z among choices test make X Y
+  choices-in X Y c =
+      each-in (λ x. each (λ y. only (test x y) (make x y)) Y) X (c .first)
+      (each-in (λ y. only (test (c .one) y) (make (c .one) y)) Y (c .second) (Memᴰ·cast (c .is) (only-in (c .passes))))
+
+-- choices of what a function makes of a list are what a function makes of choices
+module _ {A A′ B C C′ : Type 0} (f : A → A′) (g : C → C′) (test : A → B → Bool) (test′ : A′ → B → Bool)
+    (make : A → B → C) (make′ : A′ → B → C′)
+    (same-test : (x : A) (y : B) → test′ (f x) y ≡ test x y)
+    (same-make : (x : A) (y : B) → test x y ≡ true → make′ (f x) y ≡ g (make x y)) where
+  only-map : (x : A) (y : B) → only (test′ (f x) y) (make′ (f x) y) ≡ map g (only (test x y) (make x y))
+  only-map x y = ap (λ (b : Bool). only b (make′ (f x) y)) (same-test x y) ∙ go (test x y) (same-make x y)
+    where
+      go : (b : Bool) → (b ≡ true → make′ (f x) y ≡ g (make x y)) → only b (make′ (f x) y) ≡ map g (only b (make x y))
+      go true h = ap (λ (z : C′). z ∷ []) (h refl)
+      go false h = refl
+
+  each-only-map : (x : A) (Y : List B)
+      → each (λ y. only (test′ (f x) y) (make′ (f x) y)) Y ≡ map g (each (λ y. only (test x y) (make x y)) Y)
+  each-only-map x [] = refl
+  each-only-map x (y ∷ Y) =
+      ap₂ (λ (k l : List C′). k ++ l) (only-map x y) (each-only-map x Y)
+      ∙ sym (map-append g (only (test x y) (make x y)) (each (λ y. only (test x y) (make x y)) Y))
+
+  pub choices-map : (X : List A) (Y : List B) → choices test′ make′ (map f X) Y ≡ map g (choices test make X Y)
+  choices-map [] Y = refl
+  choices-map (x ∷ X) Y =
+      ap₂ (λ (k l : List C′). k ++ l) (each-only-map x Y) (choices-map X Y)
+      ∙ sym (map-append g (each (λ y. only (test x y) (make x y)) Y) (choices test make X Y))
+
+-- no two the same
+
+pub distinct-map : {A B : Type 0} (f : A → B) (l : List A) → Distinct l → ((x y : A) → f x ≡ f y → x ≡ y)
+    → Distinct (map f l)
+distinct-map f [] d one = tt
+distinct-map f (x ∷ l) d one =
+    (λ m. let y = Memᴰ·of-map f l m in d .0 (Memᴰ·cast (one x (y .0) (sym (y .2))) (y .1)), distinct-map f l (d .1) one)
+
+pub distinct-append : {A : Type 0} (l m : List A) → Distinct l → Distinct m → ((x : A) → x among l → x among m → ⊥)
+    → Distinct (l ++ m)
+distinct-append [] m d e h = e
+distinct-append {A} (x ∷ l) m d e h =
+    (λ i. go (List·Memᴰ·append-cases l i), distinct-append l m (d .1) e (λ y i. h y (List·Memᴰ·tail i)))
+  where
+    go : (x among l) ⊎ (x among m) → ⊥
+    go (inl i) = d .0 i
+    go (inr i) = h x (List·Memᴰ·head refl) i
+
+pub distinct-each : {A B : Type 0} (f : A → List B) (l : List A) → Distinct l → ((x : A) → Distinct (f x))
+    → ((x y : A) (z : B) → z among f x → z among f y → x ≡ y) → Distinct (each f l)
+distinct-each f [] d e h = tt
+distinct-each f (x ∷ l) d e h =
+    distinct-append (f x) (each f l) (e x) (distinct-each f l (d .1) e h)
+    (λ z i j. let y = each-out f l j in d .0 (Memᴰ·cast (h x (y .0) z i (y .2)) (y .1)))
+
+pub distinct-choices : {A B C : Type 0} (test : A → B → Bool) (make : A → B → C) (X : List A) (Y : List B)
+    → Distinct X → Distinct Y → ((x v : A) (y w : B) → make x y ≡ make v w → (x ≡ v) × (y ≡ w))
+    → Distinct (choices test make X Y)
+distinct-choices {A} {B} {C} test make X Y d e one = distinct-each (λ x. row x) X d row-distinct rows-apart
+  where
+    row : A → List C
+    row x = each (λ y. only (test x y) (make x y)) Y
+
+    single : (b : Bool) (z : C) → Distinct (only b z)
+    single true z = (λ m. elim m [ ], tt)
+    single false z = tt
+
+    is : (x : A) (y : B) (z : C) → z among only (test x y) (make x y) → z ≡ make x y
+    is x y z i = only-out (test x y) i .1
+
+    row-distinct : (x : A) → Distinct (row x)
+    row-distinct x =
+        distinct-each (λ y. only (test x y) (make x y)) Y e (λ y. single (test x y) (make x y))
+        (λ y w z i j. one x x y w (sym (is x y z i) ∙ is x w z j) .1)
+
+    rows-apart : (x v : A) (z : C) → z among row x → z among row v → x ≡ v
+    rows-apart x v z i j =
+        let y = each-out (λ y. only (test x y) (make x y)) Y i in
+        let w = each-out (λ y. only (test v y) (make v y)) Y j in
+        one x v (y .0) (w .0) (sym (is x (y .0) z (y .2)) ∙ is v (w .0) z (w .2)) .0
 
 -- every and any
 
@@ -84,19 +163,19 @@ pub every-out : {A : Type 0} (f : A → Bool) (l : List A) → every f l ≡ tru
 every-out f (y ∷ l) e x (List·Memᴰ·head d) = rw d (split (f y) (every f l) e .0)
 every-out f (y ∷ l) e x (List·Memᴰ·tail m) = every-out f l (split (f y) (every f l) e .1) x m
 
-pub any-in : {A : Type 0} (f : A → Bool) {x : A} (l : List A) → x among l → f x ≡ true → any f l ≡ true
+pub any-in : {A : Type 0} (f : A → Bool) {x : A} (l : List A) → x among l → f x ≡ true → anyOf f l ≡ true
 any-in f (y ∷ l) (List·Memᴰ·head d) e = rw (rw d at e)
 any-in f (y ∷ l) (List·Memᴰ·tail m) e = go (f y) (any-in f l m e)
   where
-    go : (b : Bool) → any f l ≡ true → (b || any f l) ≡ true
+    go : (b : Bool) → anyOf f l ≡ true → (b || anyOf f l) ≡ true
     go true h = refl
     go false h = h
 
-pub any-out : {A : Type 0} (f : A → Bool) (l : List A) → any f l ≡ true → (x : A) × (x among l) × (f x ≡ true)
+pub any-out : {A : Type 0} (f : A → Bool) (l : List A) → anyOf f l ≡ true → (x : A) × (x among l) × (f x ≡ true)
 any-out f [] e = absurd (false≢true e)
-any-out {A} f (y ∷ l) e = go (either (f y) (any f l) e) (any-out f l)
+any-out {A} f (y ∷ l) e = go (either (f y) (anyOf f l) e) (any-out f l)
   where
-    go : (f y ≡ true) ⊎ (any f l ≡ true) → (any f l ≡ true → (x : A) × (x among l) × (f x ≡ true))
+    go : (f y ≡ true) ⊎ (anyOf f l ≡ true) → (anyOf f l ≡ true → (x : A) × (x among l) × (f x ≡ true))
         → (x : A) × (x among y ∷ l) × (f x ≡ true)
     go (inl h) ih = (y, List·Memᴰ·head refl, h)
     go (inr h) ih = let r = ih h in (r .0, List·Memᴰ·tail (r .1), r .2)

@@ -7,7 +7,7 @@ use Prim.Native.Nat.{ℕ}
 use native.Mathlib.Omega.{arith}
 use lib.Dec.{eqb, ltb}
 use borrow.Author.Tests.{eqb-true, eqb-false, ltb-true, ltb-false, eq-eqb}
-use Rattle.words.specs.Lists.{_among_}
+use Rattle.words.specs.Lists.{_among_, Distinct}
 use Rattle.words.specs.Words.{Word}
 use Rattle.words.specs.Order.{Less, Side, lower, same, upper, side, isSame, sameWord, Rises}
 
@@ -107,3 +107,7 @@ module _ {A : Type 0} (key : A → Word) where
       heads (inl e) d = e
       heads (inr m) (inl e) = sym e
       heads (inr m) (inr n) = absurd (less-self (key x) (less-trans (key x) (key y) (key x) (r .0 y n) (s .0 x m)))
+
+  pub rises-distinct : (l : List A) → Rises key l → Distinct l
+  rises-distinct [] r = tt
+  rises-distinct (x ∷ l) r = (λ m. less-self (key x) (r .0 x m), rises-distinct l (r .1))

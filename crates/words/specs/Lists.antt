@@ -16,14 +16,23 @@ abbrev pub only : {A : Type 0} → Bool → A → List A
 only true x = x ∷ []
 only false x = []
 
+-- what is made of each `x` and each `y` for which a test passes, by `x`, then by `y`
+abbrev pub choices : {A B C : Type 0} → (A → B → Bool) → (A → B → C) → List A → List B → List C
+choices test make X Y = each (λ x. each (λ y. only (test x y) (make x y)) Y) X
+
 -- a test passes for all in a list; for some in a list
 abbrev pub every : {A : Type 0} → (A → Bool) → List A → Bool
 every f [] = true
 every f (x ∷ l) = f x && every f l
 
-abbrev pub any : {A : Type 0} → (A → Bool) → List A → Bool
-any f [] = false
-any f (x ∷ l) = f x || any f l
+abbrev pub anyOf : {A : Type 0} → (A → Bool) → List A → Bool
+anyOf f [] = false
+anyOf f (x ∷ l) = f x || anyOf f l
+
+-- no two the same
+abbrev pub Distinct : {A : Type 0} → List A → Type 0
+Distinct [] = Unit {0}
+Distinct (x ∷ l) = (x among l → ⊥) × Distinct l
 
 abbrev pub isEmpty : {A : Type 0} → List A → Bool
 isEmpty [] = true
