@@ -2,7 +2,7 @@
 -- Assumes nothing.
 use mathlib.Core.Path.{_≡_, refl, sym, _∙_, ap, subst}
 use mathlib.Core.Bool.{Bool, true, false, cond, not, true≢false, false≢true}
-use mathlib.Core.Logic.{inr, _↔_}
+use mathlib.Core.Logic.{_↔_}
 use mathlib.Core.List.{List, [], _∷_, _++_, append-cancel-left, Memᴰ·map, Memᴰ·of-map, Memᴰ·cast, cons≢nil}
 use Prim.Native.Nat.{ℕ, _<_, _≤_}
 use native.Mathlib.Omega.{arith}
@@ -160,7 +160,7 @@ module _ {L : Limits} {T : Table} (good : Good L T) {u z : Word} {m : Moment} (t
 
     -- each number is given exactly when its sentence is the first that holds
     pub finish-exact : (n : ℕ) → (finishNumber T room m ≡ n) ↔ First (finishSentences T room u) n
-    finish-exact n = first-exact (finishTests T room m) (finishSentences T room u) finish-match n
+    finish-exact n = first-exact (finishTests T room m) (finishSentences T room u) refl finish-match n
 
     -- what an accepted finish wrote is the one thing allowed
     taken-only : (w : Word) → finishNumber T room m ≡ 0 → common A ≡ w → Only T u (z ++ w) × (length w ≤ room)
@@ -179,17 +179,13 @@ module _ {L : Limits} {T : Table} (good : Good L T) {u z : Word} {m : Moment} (t
 
     -- and where one thing alone is allowed, and there is room, finish is taken
     only-first : (w : Word) → Only T u (z ++ w) → length w ≤ room → First (finishSentences T room u) 0
-    only-first w o l =
-        inr (
-          λ c. let s = ap length (o .allowed .accepts .empty) in let d = run-depth (o .allowed .run) in omega arith,
-          inr (
-            λ f. f (o .allowed .run) (o .allowed .accepts .final),
-            inr (
-              λ a. a .4 (gives (a .0) (a .2) ∙ sym (gives (a .1) (a .3))),
-              inr (no-room, refl),
-            ),
-          ),
-        )
+    only-first w o l = (
+      λ c. let s = ap length (o .allowed .accepts .empty) in let d = run-depth (o .allowed .run) in omega arith,
+      (
+        λ f. f (o .allowed .run) (o .allowed .accepts .final),
+        (λ a. a .4 (gives (a .0) (a .2) ∙ sym (gives (a .1) (a .3))), (no-room, refl)),
+      ),
+    )
       where
         gives : (r : Run T u) → Accepting T (r .end) → r .end .output ≡ z ++ w
         gives r a = o .alone (r .end .output) (record { run = r; accepts = a; gives = refl })

@@ -30,7 +30,7 @@ large-exact L A B =
 pub join-exact : (L : Limits) (room : ℕ) (A B : Table) (n : ℕ)
     → (joinNumber L room A B ≡ n) ↔ First (joinSentences L room A B) n
 join-exact L room A B =
-    first-exact (joinTests L room A B) (joinSentences L room A B) (
+    first-exact (joinTests L room A B) (joinSentences L room A B) refl (
       refl,
       not-exact (nests-exact (B .class) A),
       λ nest. (

@@ -100,4 +100,4 @@ module _ {L : Limits} {T : Table} (good : Good L T) {u z : Word} {m : Moment} (t
 
   -- each number is given exactly when its sentence is the first that holds
   pub step-exact : (n : ℕ) → (stepNumber T room m a ≡ n) ↔ First (stepSentences T room u a) n
-  step-exact n = first-exact (stepTests T room m a) (stepSentences T room u a) step-match n
+  step-exact n = first-exact (stepTests T room m a) (stepSentences T room u a) refl step-match n

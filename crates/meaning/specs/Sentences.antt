@@ -1,8 +1,10 @@
 -- The sentences of "Numbers given back" as statements about the runs over a message `u`, and over one symbol more.
 use mathlib.Core.Path.{_≡_}
+use mathlib.Core.Bool.{cond}
 use mathlib.Core.Logic.{_⊎_, _↔_}
 use mathlib.Core.List.{List, [], _∷_, _++_}
 use Prim.Native.Nat.{ℕ, _<_}
+use lib.Dec.{eqb}
 use lib.ListN.{length}
 use Rattle.words.specs.Lists.{_among_}
 use Rattle.words.specs.Words.{Word, Begins}
@@ -21,10 +23,10 @@ pub record Sentence : Type 1 where
 abbrev pub sentence : ℕ → Type 0 → Sentence
 sentence n P = record { number = n; holds = P }
 
--- "The first that applies is given"; 0 Taken if none does
+-- "The first that applies is given": the number `n` has its sentence hold and none before; 0 Taken has none hold at all
 abbrev pub First : List Sentence → ℕ → Type 0
 First [] n = n ≡ 0
-First (s ∷ l) n = (s .holds × (n ≡ s .number)) ⊎ ((s .holds → ⊥) × First l n)
+First (s ∷ l) n = cond (eqb n (s .number)) (s .holds) ((s .holds → ⊥) × First l n)
 
 -- `z` is the longest common beginning of the outputs of all runs over `u`
 pub record Agreed (T : Table) (u z : Word) : Type 0 where
