@@ -1,23 +1,21 @@
 -- The parts of a joined table: its pairs of states, its markers and its rows. Assumes nothing.
 use mathlib.Core.Path.{_≡_, refl, sym, ap, subst}
 use mathlib.Core.Bool.{true}
-use mathlib.Core.Logic.{_⊎_, inl, inr}
-use mathlib.Core.List.{List, [], _∷_, _++_, map, reverse, reverse-reverse, List·Memᴰ·head, Memᴰ·map, Memᴰ·of-map}
-use mathlib.Core.List.{Memᴰ·append-left, Memᴰ·append-right, List·Memᴰ·append-cases, List·Memᴰ·eq-of-singleton}
-use mathlib.Core.List.{Memᴰ·cast, head-eq-of-cons-eq, tail-eq-of-cons-eq}
-use Prim.Native.Nat.{ℕ, zero, suc, _<_, _+_, _*_, _-_, _/_}
-use native.Mathlib.Nat.{eq-zero-or-pos, mod-eq-of-lt, mul-add-mod-self-right, mul-add-div-right, div-eq-of-lt}
+use mathlib.Core.List.{List, [], map, reverse, reverse-reverse, List·Memᴰ·head, Memᴰ·map, Memᴰ·of-map}
+use mathlib.Core.List.{List·Memᴰ·eq-of-singleton, Memᴰ·cast, head-eq-of-cons-eq, tail-eq-of-cons-eq}
+use Prim.Native.Nat.{ℕ, _<_, _+_, _*_, _/_}
+use native.Mathlib.Nat.{mod-eq-of-lt, mul-add-mod-self-right, mul-add-div-right, div-eq-of-lt}
 use native.Mathlib.Omega.{arith}
 use lib.Dec.{eqb}
 use borrow.Author.Tests.{eqb-true, eq-eqb}
-use Rattle.words.specs.Lists.{_among_, each, only}
+use Rattle.words.specs.Lists.{_among_, each, only, upTo}
 use Rattle.words.specs.Order.{Rises}
-use Rattle.words.proofs.Lists.{each-in, each-out, only-in, only-out}
+use Rattle.words.proofs.Lists.{each-in, each-out, only-in, only-out, upTo-in, upTo-out}
 use Rattle.words.proofs.Arranged.{arranged-in, arranged-out, arranged-rises, rank-one}
 use Rattle.meaning.specs.Table.{Class, call, return, is, Row, Table, rowKey, Limits, Good}
 use Rattle.meaning.specs.Runs.{Config, config, Steps}
-use Rattle.meaning.specs.Joining.{readings, pair, pairsOf, upTo, Mark, mark, markKey, pushed, marks, number}
-use Rattle.meaning.specs.Joining.{startsOf, leaves, joinedRow, rowsFrom, rowsOf, joined}
+use Rattle.meaning.specs.Joining.{readings, pair, pairsOf, Mark, mark, markKey, pushed, marks, number, startsOf}
+use Rattle.meaning.specs.Joining.{leaves, joinedRow, rowsFrom, rowsOf, joined}
 use Rattle.meaning.proofs.Shift.{is-in, is-out}
 use Rattle.meaning.proofs.Reading.{endings-out, run-inside}
 
@@ -46,22 +44,6 @@ pairsOf-parts n ps qs p q below h m =
     let x = pairsOf-out n ps qs m in
     let e = pair-one n (x .0) (x .1) p q (below (x .1) (x .3)) h (x .4) in
     (rw (e .0) at (x .2), rw (e .1) at (x .3))
-
-pub upTo-in : (n q : ℕ) → q < n → q among upTo n
-upTo-in zero q h = absurd (omega arith)
-upTo-in (suc n) q h = go (eq-zero-or-pos (n - q)) (upTo-in n q)
-  where
-    go : (n - q ≡ 0) ⊎ (0 < n - q) → (q < n → q among upTo n) → q among upTo n ++ n ∷ []
-    go (inl e) ih = Memᴰ·append-right (upTo n) (List·Memᴰ·head (omega arith))
-    go (inr l) ih = Memᴰ·append-left (n ∷ []) (ih (omega arith))
-
-pub upTo-out : (n q : ℕ) → q among upTo n → q < n
-upTo-out zero q m = elim m [ ]
-upTo-out (suc n) q m = go (List·Memᴰ·append-cases (upTo n) m) (upTo-out n q)
-  where
-    go : (q among upTo n) ⊎ (q among n ∷ []) → (q among upTo n → q < n) → q < suc n
-    go (inl k) ih = let h = ih k in omega arith
-    go (inr k) ih = let e = List·Memᴰ·eq-of-singleton k in omega arith
 
 -- what the rows of a table make with each of `n` states
 module _ {A : Type 0} (f : Row → ℕ → List A) (n : ℕ) (l : List Row) where

@@ -165,7 +165,7 @@ back T (a ∷ u) X t m = go (back T u (grown T X a) t m)
               let g = b .steps d (subst (At d) (sym e) (configOf-at t′ (c .output ++ r .word))) in
               let v : Move T a r c d =
               record { row = k .second; reads = reads; takes = fits-takes (T .class a) r c (trailOf T s) h (p .1) } in
-              (g .0, next v (g .1));
+              (g .0, next {e = g .0} v (g .1));
         }
 
 -- a trace is listed exactly when it is a run

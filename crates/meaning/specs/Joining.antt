@@ -1,10 +1,10 @@
 -- The table that joins two: document 01, "Joining two hops"; 000, theorem 43.
 use mathlib.Core.Bool.{Bool, true, false, cond, not, _||_}
 use mathlib.Core.List.{List, [], _∷_, _++_, map, reverse}
-use Prim.Native.Nat.{ℕ, zero, suc, _+_, _*_}
+use Prim.Native.Nat.{ℕ, suc, _+_, _*_}
 use lib.Dec.{eqb, ltb}
 use lib.ListN.{length}
-use Rattle.words.specs.Lists.{each, only, anyOf, isEmpty}
+use Rattle.words.specs.Lists.{each, only, anyOf, isEmpty, upTo}
 use Rattle.words.specs.Words.{Word}
 use Rattle.words.specs.Order.{arranged, rank}
 use Rattle.meaning.specs.Table.{Class, unused, call, return, internal, is, Row, Table, rowKey, Limits}
@@ -32,11 +32,6 @@ pair n p q = p * n + q
 
 abbrev pub pairsOf : ℕ → List ℕ → List ℕ → List ℕ
 pairsOf n ps qs = each (λ p. map (pair n p) qs) ps
-
--- the states of a table
-abbrev pub upTo : ℕ → List ℕ
-upTo zero = []
-upTo (suc n) = upTo n ++ n ∷ []
 
 -- "the first's marker with the markers left on that stack", its top first
 pub record Mark : Type 0 where

@@ -4,7 +4,11 @@ use mathlib.Core.Logic.{_⊎_, inl, inr}
 use mathlib.Core.Bool.{Bool, true, false, _&&_, _||_, false≢true}
 use mathlib.Core.List.{List, [], _∷_, _++_, map, map-append, append-assoc, List·Memᴰ·head, List·Memᴰ·tail, Memᴰ·cast}
 use mathlib.Core.List.{Memᴰ·of-map, Memᴰ·append-left, Memᴰ·append-right, List·Memᴰ·append-cases}
-use Rattle.words.specs.Lists.{_among_, each, only, every, anyOf, isEmpty, choices, Distinct}
+use mathlib.Core.List.{List·Memᴰ·eq-of-singleton}
+use Prim.Native.Nat.{ℕ, zero, suc, _<_, _-_}
+use native.Mathlib.Nat.{eq-zero-or-pos}
+use native.Mathlib.Omega.{arith}
+use Rattle.words.specs.Lists.{_among_, each, only, every, anyOf, isEmpty, choices, upTo, Distinct}
 
 -- tests
 
@@ -179,6 +183,24 @@ any-out {A} f (y ∷ l) e = go (either (f y) (anyOf f l) e) (any-out f l)
         → (x : A) × (x among y ∷ l) × (f x ≡ true)
     go (inl h) ih = (y, List·Memᴰ·head refl, h)
     go (inr h) ih = let r = ih h in (r .0, List·Memᴰ·tail (r .1), r .2)
+
+-- upTo
+
+pub upTo-in : (n q : ℕ) → q < n → q among upTo n
+upTo-in zero q h = absurd (omega arith)
+upTo-in (suc n) q h = go (eq-zero-or-pos (n - q)) (upTo-in n q)
+  where
+    go : (n - q ≡ 0) ⊎ (0 < n - q) → (q < n → q among upTo n) → q among upTo n ++ n ∷ []
+    go (inl e) ih = Memᴰ·append-right (upTo n) (List·Memᴰ·head (omega arith))
+    go (inr l) ih = Memᴰ·append-left (n ∷ []) (ih (omega arith))
+
+pub upTo-out : (n q : ℕ) → q among upTo n → q < n
+upTo-out zero q m = elim m [ ]
+upTo-out (suc n) q m = go (List·Memᴰ·append-cases (upTo n) m) (upTo-out n q)
+  where
+    go : (q among upTo n) ⊎ (q among n ∷ []) → (q among upTo n → q < n) → q < suc n
+    go (inl k) ih = let h = ih k in omega arith
+    go (inr k) ih = let e = List·Memᴰ·eq-of-singleton k in omega arith
 
 -- isEmpty
 

@@ -1,5 +1,6 @@
 -- Lists: what is among them, and what a function or a test makes of each thing in them.
 use mathlib.Core.Bool.{Bool, true, false, _&&_, _||_}
+use Prim.Native.Nat.{ℕ, zero, suc}
 use mathlib.Core.List.{List, [], _∷_, _++_, List·Memᴰ}
 
 infix 50 _among_
@@ -28,6 +29,11 @@ every f (x ∷ l) = f x && every f l
 abbrev pub anyOf : {A : Type 0} → (A → Bool) → List A → Bool
 anyOf f [] = false
 anyOf f (x ∷ l) = f x || anyOf f l
+
+-- the numbers below `n`
+abbrev pub upTo : ℕ → List ℕ
+upTo zero = []
+upTo (suc n) = upTo n ++ n ∷ []
 
 -- no two the same
 abbrev pub Distinct : {A : Type 0} → List A → Type 0

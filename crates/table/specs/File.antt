@@ -1,0 +1,78 @@
+-- Which byte of a rule file says what, and the table that a file stands for: document 01, "The rule file".
+use mathlib.Core.Bool.{cond}
+use mathlib.Core.List.{List, map}
+use Prim.Native.Nat.{ℕ, _+_, _*_, _/_}
+use lib.Dec.{eqb, ltb}
+use lib.ListN.{getD, take, drop}
+use Rattle.words.specs.Lists.{upTo}
+use Rattle.words.specs.Words.{Word}
+use Rattle.meaning.specs.Table.{Class, unused, call, return, internal, Row, Table}
+use Rattle.table.specs.Sets.{members}
+
+-- "numbers little-endian"
+abbrev pub byte : List ℕ → ℕ → ℕ
+byte file i = getD file i 0
+
+abbrev pub two : List ℕ → ℕ → ℕ
+two file i = byte file i + 256 * byte file (i + 1)
+
+unfoldable pub eight : List ℕ → ℕ → ℕ
+eight file i = two file i + 65536 * (two file (i + 2) + 65536 * (two file (i + 4) + 65536 * two file (i + 6)))
+
+-- "five entries, each start (2) and length (2)", from byte 8
+abbrev pub entryStart : List ℕ → ℕ → ℕ
+entryStart file k = two file (8 + 4 * k)
+
+abbrev pub entryLength : List ℕ → ℕ → ℕ
+entryLength file k = two file (10 + 4 * k)
+
+-- "rows (8 bytes each)", from byte 300, and the words behind them
+abbrev pub rowCount : List ℕ → ℕ
+rowCount file = entryLength file 3 / 8
+
+abbrev pub rowStart : ℕ → ℕ
+rowStart i = 300 + 8 * i
+
+abbrev pub wordsStart : List ℕ → ℕ
+wordsStart file = 300 + 8 * rowCount file
+
+abbrev pub wordsLength : List ℕ → ℕ
+wordsLength file = entryLength file 4
+
+-- "For each row, its word is the part of the words body from that start for that length"
+abbrev pub wordOf : List ℕ → ℕ → Word
+wordOf file i =
+    take (byte file (rowStart i + 6)) (drop (wordsStart file + two file (rowStart i + 4)) file)
+
+-- "A row is symbol, from, to, marker (one byte each), word start (2), word length (1), zero (1)"
+abbrev pub rowAt : List ℕ → ℕ → Row
+rowAt file i =
+    record {
+      symbol = byte file (rowStart i);
+      from = byte file (rowStart i + 1);
+      to = byte file (rowStart i + 2);
+      marker = byte file (rowStart i + 3);
+      word = wordOf file i;
+    }
+
+-- "Each symbol 0 to 255 has a class: 0 unused, 1 call, 2 return, 3 internal"; the classes stand from byte 28
+abbrev pub classOf : ℕ → Class
+classOf n = cond (eqb n 0) unused (cond (eqb n 1) call (cond (eqb n 2) return internal))
+
+abbrev pub classAt : List ℕ → ℕ → Class
+classAt file a = cond (ltb a 256) (classOf (byte file (28 + a))) unused
+
+-- the table that a file stands for
+unfoldable pub tableOf : List ℕ → Table
+unfolding eight
+tableOf file =
+    record {
+      states = byte file 1;
+      markers = byte file 2;
+      depthCap = byte file 3;
+      waitingCap = two file 4;
+      class = classAt file;
+      starting = members (eight file 284);
+      final = members (eight file 292);
+      rows = map (rowAt file) (upTo (rowCount file));
+    }
