@@ -9,7 +9,7 @@ use native.Mathlib.Omega.{arith}
 use lib.Dec.{eqb, ltb}
 use lib.ListN.{length}
 use borrow.Author.Tests.{eqb-true, eq-eqb, ltb-false, not-false}
-use Rattle.words.specs.Lists.{_among_, each, only, anyOf, isEmpty}
+use Rattle.words.specs.Lists.{_among_, each, only, anyOf, isEmpty, Exact}
 use Rattle.words.specs.Words.{Word, common}
 use Rattle.words.specs.Order.{sameWord}
 use Rattle.words.proofs.Lists.{each-in, each-out, only-in, only-out, any-in, any-out, first-of}
@@ -22,8 +22,8 @@ use Rattle.meaning.specs.Living.{Place}
 use Rattle.meaning.specs.Answers.{Moment, Taken, accepts, accepted, finishTests, finishNumber, finish}
 use Rattle.meaning.specs.Sentences.{First, Agreed, Ambiguous, finishSentences, Only}
 use Rattle.meaning.proofs.Trails.{At, run-at}
-use Rattle.meaning.proofs.Tests.{Exact, exact-as, eqb-exact, ltb-exact, same-exact, not-exact, any-exact}
-use Rattle.meaning.proofs.Tests.{empty-exact, Match, first-exact, fails}
+use Rattle.words.proofs.Exact.{exact-as, eqb-exact, ltb-exact, same-exact, not-exact, any-exact, empty-exact}
+use Rattle.meaning.proofs.Tests.{Match, first-exact, fails}
 use Rattle.meaning.proofs.Depth.{run-depth, taken-depth}
 use Rattle.meaning.proofs.Moment.{holds}
 use Rattle.meaning.proofs.Stands.{stands, runs-of, agreed-one}

@@ -8,7 +8,9 @@ use Rattle.meaning.specs.Table.{Table, Limits}
 use Rattle.meaning.specs.Joining.{joined, fileSize, longWord, large, joinTests, joinNumber}
 use Rattle.meaning.specs.Runs.{said}
 use Rattle.meaning.specs.Sentences.{First, LongWord, TooLarge, joinSentences}
-use Rattle.meaning.proofs.Tests.{Exact, ltb-exact, not-exact, or-exact, any-exact, first-exact}
+use Rattle.words.specs.Lists.{Exact}
+use Rattle.words.proofs.Exact.{ltb-exact, not-exact, or-exact, any-exact}
+use Rattle.meaning.proofs.Tests.{first-exact}
 use Rattle.meaning.proofs.Nesting.{nests-exact}
 
 long-exact : (n : ℕ) (T : Table) → Exact (LongWord n T) (longWord n T)

@@ -7,12 +7,13 @@ use mathlib.Core.List.{[], _∷_, _++_, append-assoc}
 use Prim.Native.Nat.{ℕ, zero, suc}
 use borrow.Author.Tests.{eqb-true}
 use native.Mathlib.Omega.{arith}
-use Rattle.words.specs.Lists.{_among_}
+use Rattle.words.specs.Lists.{_among_, Exact}
 use Rattle.words.specs.Words.{Word}
 use Rattle.meaning.specs.Table.{Class, unused, call, return, internal, Row, Table}
 use Rattle.meaning.specs.Nesting.{Nested, nothing, alone, around, beside, after, andThen, level, isZero, nested}
 use Rattle.meaning.specs.Nesting.{Nests, partners, nests}
-use Rattle.meaning.proofs.Tests.{Exact, is-exact, eqb-exact, not-exact, and-exact, if-exact, every-exact}
+use Rattle.words.proofs.Exact.{eqb-exact, not-exact, and-exact, if-exact, every-exact}
+use Rattle.meaning.proofs.Tests.{is-exact}
 
 pub andThen-some : (o : Option ℕ) (f : ℕ → Option ℕ) {n : ℕ} → andThen o f ≡ some n
     → (m : ℕ) × (o ≡ some m) × (f m ≡ some n)

@@ -8,7 +8,7 @@ use mathlib.Core.List.{head-eq-of-cons-eq, tail-eq-of-cons-eq}
 use Prim.Native.Nat.{_<_}
 use lib.Dec.{ltb}
 use lib.ListN.{length}
-use Rattle.words.specs.Lists.{_among_, each, anyOf, isEmpty}
+use Rattle.words.specs.Lists.{_among_, each, anyOf, isEmpty, Exact}
 use Rattle.words.specs.Words.{Word, Begins}
 use Rattle.words.proofs.Lists.{each-in, each-out}
 use Rattle.words.proofs.Common.{begins-same, begins-ahead, common-begins, common-longest}
@@ -19,8 +19,7 @@ use Rattle.meaning.specs.Trails.{Trail, Pair, trail, trailKey, Link, lin
 use Rattle.meaning.specs.Living.{Place, place, living}
 use Rattle.meaning.specs.Answers.{linksCap, outputs, linksOf, clash, sending, held}
 use Rattle.meaning.specs.Sentences.{Agreed, Linked, Crowded, Conflict, Backlog}
-use Rattle.meaning.proofs.Tests.{Exact, exact-as, empty-exact, any-exact, and-exact, not-exact, ltb-exact}
-use Rattle.meaning.proofs.Tests.{same-exact}
+use Rattle.words.proofs.Exact.{exact-as, empty-exact, any-exact, and-exact, not-exact, ltb-exact, same-exact}
 use Rattle.meaning.proofs.Trails.{trailKey-one}
 use Rattle.meaning.proofs.Living.{Reaches, living-run, run-living}
 use Rattle.meaning.proofs.Moment.{front, ahead, common-front, cut, held-in, held-front}

@@ -8,7 +8,7 @@ use Prim.Native.Nat.{ℕ, _<_}
 use lib.Dec.{eqb, ltb}
 use lib.ListN.{length}
 use borrow.Author.Tests.{ne-eqb}
-use Rattle.words.specs.Lists.{_among_}
+use Rattle.words.specs.Lists.{_among_, Exact}
 use Rattle.words.specs.Words.{Word}
 use Rattle.words.proofs.Lists.{first-of}
 use Rattle.meaning.specs.Table.{Class, unused, call, return, is, Table, Limits, Good}
@@ -16,7 +16,8 @@ use Rattle.meaning.specs.Runs.{depth}
 use Rattle.meaning.specs.Living.{Place, moved, living}
 use Rattle.meaning.specs.Answers.{Moment, sending, sends, follows, step, stepTests, stepNumber, Taken}
 use Rattle.meaning.specs.Sentences.{First, Agreed, NoRoom, stepSentences}
-use Rattle.meaning.proofs.Tests.{Exact, exact-as, is-exact, eqb-exact, ltb-exact, and-exact, Match, first-exact}
+use Rattle.words.proofs.Exact.{exact-as, eqb-exact, ltb-exact, and-exact}
+use Rattle.meaning.proofs.Tests.{is-exact, Match, first-exact}
 use Rattle.meaning.proofs.Depth.{taken-depth}
 use Rattle.meaning.proofs.Moment.{ahead, holds, moved-runs}
 use Rattle.meaning.proofs.Stands.{agreed, agreed-one, none-exact, crowded-exact, conflict-exact, backlog-exact}

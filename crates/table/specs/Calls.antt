@@ -1,0 +1,53 @@
+-- What the functions of this crate answer and ask, beyond the definitions of the file.
+use mathlib.Core.Path.{_≡_}
+use mathlib.Core.Logic.{_↔_}
+use mathlib.Core.List.{List}
+use Prim.Native.Nat.{ℕ, _+_, _*_, _<_, _≤_}
+use lib.ListN.{length}
+use Rattle.meaning.specs.Table.{Row}
+use Rattle.meaning.specs.Table as Meaning
+use Rattle.table.specs.File.{byte, two, rowCount, rowStart, wordsStart, rowAt}
+use Rattle.table.specs.Good.{first, Good}
+use Rattle.table.specs.declared.Verdict.{Verdict}
+use Rattle.table.specs.declared.Verdict.the-variants.{Taken, BadTable}
+use Rattle.table.specs.declared.read.Class.{Class}
+use Rattle.table.specs.declared.read.Class.the-variants.{Unused, Call, Return, Internal}
+
+-- "Numbers given back": 0 Taken, 1 BadTable
+abbrev pub numberOf : Verdict → ℕ
+numberOf Taken = 0
+numberOf BadTable = 1
+
+-- "BadTable: the file breaks a rule above"
+pub record Checked (file : List ℕ) (r : Verdict) : Type 0 where
+  pub good : (numberOf r ≡ 0) ↔ Good first file
+  pub bad : (numberOf r ≡ 1) ↔ (Good first file → ⊥)
+
+-- the class that a variant stands for
+abbrev pub meant : Class → Meaning.Class
+meant Unused = Meaning.unused
+meant Call = Meaning.call
+meant Return = Meaning.return
+meant Internal = Meaning.internal
+
+-- rows before `r` have lower symbols, those from there on have this one or higher
+pub record FirstRow (file : List ℕ) (symbol r : ℕ) : Type 0 where
+  pub within : r ≤ rowCount file
+  pub before : (k : ℕ) → k < r → rowAt file k .symbol < symbol
+  pub onward : (k : ℕ) → r ≤ k → k < rowCount file → symbol ≤ rowAt file k .symbol
+
+-- what functions inside ask: that a row, and its word, stand in the file
+abbrev pub RowIn : List ℕ → ℕ → Type 0
+RowIn file i = rowStart i + 8 ≤ length file
+
+pub record WordIn (file : List ℕ) (i : ℕ) : Type 0 where
+  pub row : RowIn file i
+  pub word : wordsStart file + two file (rowStart i + 4) + byte file (rowStart i + 6) ≤ length file
+
+-- a row's symbol, from, marker and to, which are bytes, as one number
+pub record Headed (r : Row) (head : ℕ) : Type 0 where
+  pub symbol : r .symbol < 256
+  pub from : r .from < 256
+  pub marker : r .marker < 256
+  pub to : r .to < 256
+  pub is : head ≡ ((r .symbol * 256 + r .from) * 256 + r .marker) * 256 + r .to

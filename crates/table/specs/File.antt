@@ -19,16 +19,9 @@ two file i = byte file i + 256 * byte file (i + 1)
 unfoldable pub eight : List ℕ → ℕ → ℕ
 eight file i = two file i + 65536 * (two file (i + 2) + 65536 * (two file (i + 4) + 65536 * two file (i + 6)))
 
--- "five entries, each start (2) and length (2)", from byte 8
-abbrev pub entryStart : List ℕ → ℕ → ℕ
-entryStart file k = two file (8 + 4 * k)
-
-abbrev pub entryLength : List ℕ → ℕ → ℕ
-entryLength file k = two file (10 + 4 * k)
-
--- "rows (8 bytes each)", from byte 300, and the words behind them
+-- "rows (8 bytes each)", from byte 300, and the words behind them; their lengths stand in the fourth and the fifth entry
 abbrev pub rowCount : List ℕ → ℕ
-rowCount file = entryLength file 3 / 8
+rowCount file = two file 22 / 8
 
 abbrev pub rowStart : ℕ → ℕ
 rowStart i = 300 + 8 * i
@@ -37,7 +30,7 @@ abbrev pub wordsStart : List ℕ → ℕ
 wordsStart file = 300 + 8 * rowCount file
 
 abbrev pub wordsLength : List ℕ → ℕ
-wordsLength file = entryLength file 4
+wordsLength file = two file 26
 
 -- "For each row, its word is the part of the words body from that start for that length"
 abbrev pub wordOf : List ℕ → ℕ → Word

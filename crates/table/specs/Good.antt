@@ -5,8 +5,7 @@ use mathlib.Core.List.{List}
 use lib.ListN.{length}
 use Rattle.words.specs.Order.{Less}
 use Rattle.meaning.specs.Table.{Limits, edition1, MarkFits, rowKey}
-use Rattle.table.specs.File.{byte, two, eight, entryStart, entryLength, rowCount, rowStart, wordsStart}
-use Rattle.table.specs.File.{wordsLength, rowAt, classAt}
+use Rattle.table.specs.File.{byte, two, eight, rowCount, rowStart, wordsStart, wordsLength, rowAt, classAt}
 
 -- an edition of the rule file: its number, and what it allows
 pub record Edition : Type 0 where
@@ -25,25 +24,26 @@ pub record Head (E : Edition) (file : List ℕ) : Type 0 where
   pub waitingCap : two file 4 ≤ E .limits .waiting
   pub whole : two file 6 ≡ length file
 
--- "Bodies stand in this order from byte 28 with no gap and fill the file"
-pub record Entry (file : List ℕ) (k start size : ℕ) : Type 0 where
-  pub starts : entryStart file k ≡ start
-  pub lasts : entryLength file k ≡ size
+-- "five entries, each start (2) and length (2)"
+pub record Entry (file : List ℕ) (at start size : ℕ) : Type 0 where
+  pub starts : two file at ≡ start
+  pub lasts : two file (at + 2) ≡ size
 
+-- "Bodies stand in this order from byte 28 with no gap and fill the file"
 pub record Contents (E : Edition) (file : List ℕ) : Type 0 where
   pub long : 28 ≤ length file
-  pub classes : Entry file 0 28 256
-  pub starting : Entry file 1 284 8
-  pub final : Entry file 2 292 8
-  pub rows : Entry file 3 300 (8 * rowCount file)
+  pub classes : Entry file 8 28 256
+  pub starting : Entry file 12 284 8
+  pub final : Entry file 16 292 8
+  pub rows : Entry file 20 300 (8 * rowCount file)
   pub count : rowCount file ≤ E .limits .rows
-  pub words : Entry file 4 (wordsStart file) (wordsLength file)
+  pub words : Entry file 24 (wordsStart file) (wordsLength file)
   pub bytes : wordsLength file ≤ E .limits .words
   pub fill : wordsStart file + wordsLength file ≡ length file
 
 -- "classes (256 bytes, each 0 to 3)"
-abbrev pub Classes : List ℕ → Type 0
-Classes file = (a : ℕ) → a < 256 → byte file (28 + a) ≤ 3
+pub record Classes (file : List ℕ) : Type 0 where
+  pub each : (a : ℕ) → a < 256 → byte file (28 + a) ≤ 3
 
 -- "bits from the state count upward are 0. The starting set isn't empty; the final set may be"
 pub record Sets (file : List ℕ) : Type 0 where
@@ -51,17 +51,23 @@ pub record Sets (file : List ℕ) : Type 0 where
   pub some : 0 < eight file 284
   pub final : eight file 292 < 2 ^ byte file 1
 
+abbrev pub MarkAt : List ℕ → ℕ → Type 0
+MarkAt file i = MarkFits (classAt file (rowAt file i .symbol)) (byte file 2) (rowAt file i .marker)
+
 pub record RowFits (file : List ℕ) (i : ℕ) : Type 0 where
-  pub marker : MarkFits (classAt file (rowAt file i .symbol)) (byte file 2) (rowAt file i .marker)
+  pub marker : MarkAt file i
   pub from : rowAt file i .from < byte file 1
   pub to : rowAt file i .to < byte file 1
   pub word : two file (rowStart i + 4) + byte file (rowStart i + 6) ≤ wordsLength file
   pub zero : byte file (rowStart i + 7) ≡ 0
 
 -- "Rows rise strictly by symbol, from, marker, to, then word in byte order"
+pub record Rising (file : List ℕ) (i : ℕ) : Type 0 where
+  pub less : Less (rowKey (rowAt file i)) (rowKey (rowAt file (i + 1)))
+
 pub record Rows (file : List ℕ) : Type 0 where
   pub fit : (i : ℕ) → i < rowCount file → RowFits file i
-  pub rise : (i : ℕ) → i + 1 < rowCount file → Less (rowKey (rowAt file i)) (rowKey (rowAt file (i + 1)))
+  pub rise : (i : ℕ) → i + 1 < rowCount file → Rising file i
 
 pub record Good (E : Edition) (file : List ℕ) : Type 0 where
   pub head : Head E file

@@ -67,6 +67,20 @@ pub side-self : (xs : Word) → side xs xs ≡ same
 side-self [] = refl
 side-self (x ∷ xs) = rw (eq-eqb x x refl) (side-self xs)
 
+pub same≢lower : same ≡ lower → ⊥
+same≢lower e = let z : _≡_ {A = ℕ} 0 1 = cc in omega arith
+
+pub upper≢lower : upper ≡ lower → ⊥
+upper≢lower e = let z : _≡_ {A = ℕ} 0 1 = cc in omega arith
+
+pub less-side : (xs ys : Word) → Less xs ys → side xs ys ≡ lower
+less-side xs ys h = go (side xs ys) (says xs ys)
+  where
+    go : (s : Side) → Says s xs ys → s ≡ lower
+    go lower k = refl
+    go same k = absurd (less-self ys (rw k at h))
+    go upper k = absurd (less-self xs (less-trans xs ys xs h k))
+
 -- the test of sameness
 pub same-out : (xs ys : Word) → sameWord xs ys ≡ true → xs ≡ ys
 same-out xs ys e = go (side xs ys) (says xs ys) e

@@ -1,4 +1,5 @@
--- What must be believed of words: lists, the longest common beginning, order and rising lists.
+-- What must be believed of words: lists, the longest common beginning, order and rising lists, what calls answer.
 pub mod Lists
 pub mod Words
 pub mod Order
+pub mod Calls

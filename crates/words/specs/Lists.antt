@@ -1,4 +1,6 @@
 -- Lists: what is among them, and what a function or a test makes of each thing in them.
+use mathlib.Core.Path.{_≡_}
+use mathlib.Core.Logic.{_↔_}
 use mathlib.Core.Bool.{Bool, true, false, _&&_, _||_}
 use Prim.Native.Nat.{ℕ, zero, suc}
 use mathlib.Core.List.{List, [], _∷_, _++_, List·Memᴰ}
@@ -20,6 +22,10 @@ only false x = []
 -- what is made of each `x` and each `y` for which a test passes, by `x`, then by `y`
 abbrev pub choices : {A B C : Type 0} → (A → B → Bool) → (A → B → C) → List A → List B → List C
 choices test make X Y = each (λ x. each (λ y. only (test x y) (make x y)) Y) X
+
+-- the test `b` passes exactly when `P` holds
+abbrev pub Exact : Type 0 → Bool → Type 0
+Exact P b = P ↔ (b ≡ true)
 
 -- a test passes for all in a list; for some in a list
 abbrev pub every : {A : Type 0} → (A → Bool) → List A → Bool

@@ -1,2 +1,15 @@
 // Byte strings: the longest common beginning, byte order, rising lists, with the laws that the crates above use.
-// There is no code here yet: each function comes with the crate that needs it.
+// Each function comes with the crate that needs it.
+mod byte_order;
+
+pub use byte_order::Order;
+pub use byte_order::compare;
+ghost use mathlib.Core.Path.{_≡_};
+ghost use Prim.Native.Nat.{_<_};
+
+// A byte as a number, with the bound that sums and products of bytes are proved from.
+pub fn wide(x: u8) -> usize
+    ensures { λ r. ⌜ (r ≡ x) × (r < 256) ⌝ }
+{
+    x as usize
+}

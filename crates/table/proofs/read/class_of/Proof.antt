@@ -1,0 +1,55 @@
+use mathlib.Core.Path.{_≡_, sym, ap, _∙_}
+use Prim.Native.Nat.{ℕ, _+_}
+use native.Mathlib.Omega.{arith}
+use Rattle.table.specs.File.{byte, classOf, classAt, tableOf}
+use Rattle.table.proofs.Marks.{class-at, class-unused, class-call, class-return, class-internal}
+use borrow.Author.Needs.{needs}
+use Rattle.table.proofs.read.class_of.Statement.{statement}
+use Rattle.table.proofs.read.class_of.Tie as tie
+
+-- the byte that was read says the symbol's class
+class-told : (c : tie.After-wide2) → classAt (c .before .before .before .before .args .file .now) (c .before .before .before .before .args .symbol) ≡ classOf (c .wide2 .result)
+class-told c =
+    class-at (c .before .before .before .before .args .file .now) (c .before .before .before .before .args .symbol) (c .wide2 .result) (omega arith)
+    (c .wide2 .ensures .0 ∙ ap (λ (n : ℕ). byte (c .before .before .before .before .args .file .now) (28 + n)) (c .before .before .wide .ensures .0))
+
+wide-requires : tie.Need-wide-requires
+wide-requires c κs = search needs
+
+add-wide : tie.Need-add-wide
+add-wide c = search needs
+
+shared-slice-read-wide : tie.Need-shared-slice-read-wide
+shared-slice-read-wide c = search needs
+
+wide-requires-2 : tie.Need-wide-requires-2
+wide-requires-2 c κs = search needs
+
+returns : tie.Need-returns
+unfolding tableOf
+returns c = sym (class-told (c .before) ∙ class-unused (c .if1 .taken))
+
+returns-2 : tie.Need-returns-2
+unfolding tableOf
+returns-2 c = sym (class-told (c .before .before) ∙ class-call (c .if2 .taken))
+
+returns-3 : tie.Need-returns-3
+unfolding tableOf
+returns-3 c = sym (class-told (c .before .before .before) ∙ class-return (c .if3 .taken))
+
+returns-4 : tie.Need-returns-4
+unfolding tableOf
+returns-4 c = sym (class-told (c .before .before .before) ∙ class-internal {k = c .before .before .before .wide2 .result} (omega arith))
+
+pub class-of-spec : {M : Type 1} → statement M
+class-of-spec =
+    tie.close
+    (tie.spec
+    wide-requires
+    add-wide
+    shared-slice-read-wide
+    wide-requires-2
+    returns
+    returns-2
+    returns-3
+    returns-4)

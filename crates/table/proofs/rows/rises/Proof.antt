@@ -1,0 +1,84 @@
+use mathlib.Core.Path.{_≡_, sym, ap, _∙_}
+use Prim.Native.Nat.{_+_}
+use native.Mathlib.Omega.{arith}
+use Rattle.words.specs.Order.{side}
+use Rattle.words.specs.Calls.{sideOf}
+use Rattle.words.proofs.Order.{same≢lower, upper≢lower}
+use Rattle.table.specs.File.{wordOf}
+use Rattle.words.proofs.Exact.{yes-exact, no-exact}
+use Rattle.table.proofs.Heads.{head-less, head-more, words-rise, words-stay}
+use borrow.Author.Needs.{needs}
+use Rattle.table.proofs.rows.rises.Statement.{statement}
+use Rattle.table.proofs.rows.rises.Tie as tie
+
+-- what `compare` told of the two words
+words-side : (c : tie.After-compare)
+    → side (wordOf (c .before .before .before .before .before .before .args .file .now) (c .before .before .before .before .before .before .args .i))
+    (wordOf (c .before .before .before .before .before .before .args .file .now) (c .before .before .before .before .before .before .args .i + 1))
+    ≡ sideOf (c .compare .result)
+words-side c =
+    (λ k. side (sym (c .before .before .row-word .ensures) k) (sym (c .before .row-word2 .ensures) k))
+    ∙ sym (c .compare .ensures)
+
+returns : tie.Need-returns
+returns c = yes-exact (record { less = head-less (c .before .before .pre .0 .1) (c .before .before .pre .1 .1) (c .if1 .taken) })
+
+returns-2 : tie.Need-returns-2
+returns-2 c = no-exact (λ h. head-more (c .before .before .before .pre .0 .1) (c .before .before .before .pre .1 .1) (c .if2 .taken) (h .less))
+
+row-word-requires : tie.Need-row-word-requires
+row-word-requires c κs = search needs
+
+add-row-word : tie.Need-add-row-word
+add-row-word c = search needs
+
+row-word-requires-2 : tie.Need-row-word-requires-2
+row-word-requires-2 c κs = search needs
+
+compare-requires : tie.Need-compare-requires
+compare-requires c κs = search needs
+
+enum-told : tie.Need-enum-told
+enum-told c = search needs
+
+enum-told-2 : tie.Need-enum-told-2
+enum-told-2 c = search needs
+
+enum-told-3 : tie.Need-enum-told-3
+enum-told-3 c = search needs
+
+returns-3 : tie.Need-returns-3
+returns-3 c =
+    yes-exact
+    (record { less = words-rise (c .before .before .before .before .before .before .before .before .pre .0 .1) (c .before .before .before .before .before .before .before .before .pre .1 .1) (omega arith) (words-side (c .before .before) ∙ ap sideOf (c .enum-told .given .1)) })
+
+returns-4 : tie.Need-returns-4
+returns-4 c =
+    no-exact
+    (λ h.
+    words-stay (c .before .before .before .before .before .before .before .before .pre .0 .1) (c .before .before .before .before .before .before .before .before .pre .1 .1) (omega arith)
+    (λ d. same≢lower (ap sideOf (sym (c .enum-told2 .given .1)) ∙ sym (words-side (c .before .before)) ∙ d)) (h .less))
+
+returns-5 : tie.Need-returns-5
+returns-5 c =
+    no-exact
+    (λ h.
+    words-stay (c .before .before .before .before .before .before .before .before .pre .0 .1) (c .before .before .before .before .before .before .before .before .pre .1 .1) (omega arith)
+    (λ d. upper≢lower (ap sideOf (sym (c .enum-told3 .given .1)) ∙ sym (words-side (c .before .before)) ∙ d)) (h .less))
+
+pub rises-spec : {M : Type 1} → statement M
+rises-spec =
+    tie.close
+    (tie.spec
+    returns
+    returns-2
+    row-word-requires
+    add-row-word
+    row-word-requires-2
+    compare-requires
+    enum-told
+    enum-told-2
+    enum-told-3
+    returns-3
+    returns-4
+    returns-5)

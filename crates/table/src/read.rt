@@ -1,0 +1,129 @@
+// What a good file says. These ask for a file that `check` took, and for a row that is there.
+use crate::load::load_eight;
+use crate::load::load_two;
+use words::wide;
+ghost use mathlib.Core.Path.{_≡_};
+ghost use Prim.Native.Nat.{_<_};
+ghost use Rattle.table.specs.File.{eight, rowCount, rowAt, tableOf};
+ghost use Rattle.table.specs.Good.{first, Good};
+ghost use Rattle.table.specs.Calls.{meant, FirstRow};
+
+pub fn states(file: &[u8]) -> usize
+    requires { ⌜ Good first (now file) ⌝ }
+    ensures { λ r. ⌜ r ≡ tableOf (now (file .entry)) .states ⌝ }
+{
+    wide(file[1])
+}
+
+pub fn markers(file: &[u8]) -> usize
+    requires { ⌜ Good first (now file) ⌝ }
+    ensures { λ r. ⌜ r ≡ tableOf (now (file .entry)) .markers ⌝ }
+{
+    wide(file[2])
+}
+
+pub fn depth_cap(file: &[u8]) -> usize
+    requires { ⌜ Good first (now file) ⌝ }
+    ensures { λ r. ⌜ r ≡ tableOf (now (file .entry)) .depthCap ⌝ }
+{
+    wide(file[3])
+}
+
+pub fn waiting_cap(file: &[u8]) -> usize
+    requires { ⌜ Good first (now file) ⌝ }
+    ensures { λ r. ⌜ r ≡ tableOf (now (file .entry)) .waitingCap ⌝ }
+{
+    load_two(file, 4)
+}
+
+pub fn starting_set(file: &[u8]) -> u64
+    requires { ⌜ Good first (now file) ⌝ }
+    ensures { λ r. ⌜ r ≡ eight (now (file .entry)) 284 ⌝ }
+{
+    load_eight(file, 284)
+}
+
+pub fn final_set(file: &[u8]) -> u64
+    requires { ⌜ Good first (now file) ⌝ }
+    ensures { λ r. ⌜ r ≡ eight (now (file .entry)) 292 ⌝ }
+{
+    load_eight(file, 292)
+}
+
+pub enum Class {
+    Unused,
+    Call,
+    Return,
+    Internal,
+}
+
+pub fn class_of(file: &[u8], symbol: u8) -> Class
+    requires { ⌜ Good first (now file) ⌝ }
+    ensures { λ r. ⌜ meant r ≡ tableOf (now (file .entry)) .class symbol ⌝ }
+{
+    let class = wide(file[28 + wide(symbol)]);
+    if class == 0 {
+        return Class::Unused;
+    }
+    if class == 1 {
+        return Class::Call;
+    }
+    if class == 2 {
+        return Class::Return;
+    }
+    Class::Internal
+}
+
+pub fn row_count(file: &[u8]) -> usize
+    requires { ⌜ Good first (now file) ⌝ }
+    ensures { λ r. ⌜ r ≡ rowCount (now (file .entry)) ⌝ }
+{
+    load_two(file, 22) / 8
+}
+
+pub fn row_symbol(file: &[u8], i: usize) -> usize
+    requires { ⌜ (Good first (now file)) × (i < rowCount (now file)) ⌝ }
+    ensures { λ r. ⌜ r ≡ rowAt (now (file .entry)) i .symbol ⌝ }
+{
+    wide(file[300 + 8 * i])
+}
+
+pub fn row_from(file: &[u8], i: usize) -> usize
+    requires { ⌜ (Good first (now file)) × (i < rowCount (now file)) ⌝ }
+    ensures { λ r. ⌜ r ≡ rowAt (now (file .entry)) i .from ⌝ }
+{
+    wide(file[300 + 8 * i + 1])
+}
+
+pub fn row_to(file: &[u8], i: usize) -> usize
+    requires { ⌜ (Good first (now file)) × (i < rowCount (now file)) ⌝ }
+    ensures { λ r. ⌜ r ≡ rowAt (now (file .entry)) i .to ⌝ }
+{
+    wide(file[300 + 8 * i + 2])
+}
+
+pub fn row_marker(file: &[u8], i: usize) -> usize
+    requires { ⌜ (Good first (now file)) × (i < rowCount (now file)) ⌝ }
+    ensures { λ r. ⌜ r ≡ rowAt (now (file .entry)) i .marker ⌝ }
+{
+    wide(file[300 + 8 * i + 3])
+}
+
+// The place of the first row with this symbol or a higher one: rows rise by symbol, so that halving finds it.
+pub fn first_row(file: &[u8], symbol: u8) -> usize
+    requires { ⌜ Good first (now file) ⌝ }
+    ensures { λ r. ⌜ FirstRow (now (file .entry)) symbol r ⌝ }
+{
+    let a = wide(symbol);
+    let mut low = 0;
+    let mut high = row_count(file);
+    while low < high {
+        let middle = low + (high - low) / 2;
+        if row_symbol(file, middle) < a {
+            low = middle + 1;
+        } else {
+            high = middle;
+        }
+    }
+    low
+}
