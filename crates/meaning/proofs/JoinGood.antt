@@ -11,6 +11,7 @@ use borrow.Author.Tests.{not-false}
 use Rattle.words.specs.Lists.{_among_}
 use Rattle.words.specs.Order.{Less, Rises}
 use Rattle.words.proofs.Lists.{each-out}
+use Rattle.words.proofs.Order.{rises-append}
 use Rattle.words.proofs.Arranged.{rank-below}
 use Rattle.meaning.specs.Table.{Class, unused, call, return, internal, Row, Table, Limits, MarkFits, GoodSet}
 use Rattle.meaning.specs.Table.{GoodRow, Good}
@@ -37,15 +38,6 @@ first-less : {m n : ℕ} → Less (m ∷ []) (n ∷ []) → m < n
 first-less (inl h) = h
 first-less (inr h) = absurd (h .1)
 
-rises-append : (l m : List ℕ) → Rising l → Rising m → ((x y : ℕ) → x among l → y among m → x < y) → Rising (l ++ m)
-rises-append [] m r s h = s
-rises-append (x ∷ l) m r s h =
-    (λ y i. go y (List·Memᴰ·append-cases l i), rises-append l m (r .1) s (λ a b i. h a b (List·Memᴰ·tail i)))
-  where
-    go : (y : ℕ) → (y among l) ⊎ (y among m) → Less (x ∷ []) (y ∷ [])
-    go y (inl i) = r .0 y i
-    go y (inr i) = inl (h x y (List·Memᴰ·head refl) i)
-
 map-rises : (f : ℕ → ℕ) → ((a b : ℕ) → a < b → f a < f b) → (l : List ℕ) → Rising l → Rising (map f l)
 map-rises f h [] r = tt
 map-rises f h (x ∷ l) r = (λ y i. go y (Memᴰ·of-map f l i), map-rises f h l (r .1))
@@ -57,17 +49,17 @@ pairs-rise : (n : ℕ) (ps qs : List ℕ) → Rising ps → Rising qs → ((q : 
     → Rising (pairsOf n ps qs)
 pairs-rise n [] qs r s h = tt
 pairs-rise n (p ∷ ps) qs r s h =
-    rises-append (map (pair n p) qs) (pairsOf n ps qs) (map-rises (pair n p) (λ a b l. omega arith) qs s)
+    rises-append (λ q. q ∷ []) (map (pair n p) qs) (pairsOf n ps qs) (map-rises (pair n p) (λ a b l. omega arith) qs s)
     (pairs-rise n ps qs (r .1) s h) (λ x y i k. go x y (Memᴰ·of-map (pair n p) qs i) (pairsOf-out n ps qs k))
   where
     go : (x y : ℕ) → (q : ℕ) × (q among qs) × (pair n p q ≡ x)
-        → (a : ℕ) × (b : ℕ) × (a among ps) × (b among qs) × (pair n a b ≡ y) → x < y
+        → (a : ℕ) × (b : ℕ) × (a among ps) × (b among qs) × (pair n a b ≡ y) → Less (x ∷ []) (y ∷ [])
     go x y q a =
         let l = mul-le-mul-right n (first-less (r .0 (a .0) (a .2))) in
         let k = h (q .0) (q .1) in
         let e = q .2 in
         let f = a .4 in
-        omega arith
+        inl (omega arith)
 
 good-pairs : (m n : ℕ) (ps qs : List ℕ) → GoodSet m ps → GoodSet n qs → GoodSet (m * n) (pairsOf n ps qs)
 good-pairs m n ps qs f g = record { rise = pairs-rise n ps qs (f .rise) (g .rise) (g .below); below = below }

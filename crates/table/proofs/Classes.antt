@@ -1,10 +1,10 @@
 -- Bytes taken together by or: all are small exactly when what they make is. Assumes nothing.
-use mathlib.Core.Path.{_≡_, refl}
-use mathlib.Core.Logic.{_↔_, _⊎_, inl, inr}
+use mathlib.Core.Path.{_≡_}
+use mathlib.Core.Logic.{_↔_}
 use mathlib.Core.List.{List}
-use Prim.Native.Nat.{ℕ, _+_, _-_, _<_, _≤_}
+use Prim.Native.Nat.{ℕ, _+_, _<_}
 use native.Mathlib.Omega.{arith}
-use lib.Bits.{bitAnd, bitOr, or-lt, and-le-l, and-le-r, or-add-and}
+use lib.Bits.{bitOr, or-lt, and-le-l, and-le-r, or-add-and}
 use lib.Dec.{ltb}
 use lib.ListN.{getD, take, drop}
 use lib.Seq.{getD-take, getD-drop}

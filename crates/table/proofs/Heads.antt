@@ -1,17 +1,12 @@
 -- When a row stands above another: by their heads, each one number, and where these are the same by their words.
 -- Assumes nothing.
-use mathlib.Core.Path.{_≡_, sym, _∙_}
-use mathlib.Core.Bool.{true, false}
+use mathlib.Core.Path.{_≡_}
 use mathlib.Core.Logic.{_⊎_, _↔_, inl, inr, ⊎-elim}
-use mathlib.Core.List.{_∷_}
 use Prim.Native.Nat.{ℕ, _-_, _<_, _≤_}
 use native.Mathlib.Nat.{eq-zero-or-pos}
 use native.Mathlib.Omega.{arith}
-use Rattle.words.specs.Lists.{Exact}
-use Rattle.words.specs.Words.{Word}
-use Rattle.words.specs.Order.{Less, Side, lower, side}
+use Rattle.words.specs.Order.{Less, lower, side}
 use Rattle.words.proofs.Order.{less-self, less-trans, side-lower, less-side}
-use Rattle.words.proofs.Exact.{yes-exact, no-exact}
 use Rattle.meaning.specs.Table.{Row, rowKey}
 use Rattle.table.specs.Calls.{Headed}
 
@@ -54,6 +49,7 @@ module _ {r s : Row} {head next : ℕ} (n : Headed r head) (m : Headed s next) w
   words-stay h f l = f (less-side (r .word) (s .word) (head-same h .0 l))
 
 -- a row with a higher head is not below
-pub head-more : {r s : Row} {head next : ℕ} → Headed r head → Headed s next → next < head → Less (rowKey r) (rowKey s) → ⊥
+pub head-more : {r s : Row} {head next : ℕ} → Headed r head → Headed s next → next < head
+    → Less (rowKey r) (rowKey s) → ⊥
 head-more {r} {s} n m h l =
     less-self (rowKey r) (less-trans (rowKey r) (rowKey s) (rowKey r) l (head-less m n h))

@@ -7,3 +7,4 @@ pub mod Heads
 pub mod Passed
 pub mod Told
 pub mod Symbols
+pub mod Stands

@@ -1,18 +1,16 @@
 -- When a row's marker fits. Assumes nothing.
-use mathlib.Core.Path.{_≡_, refl, sym, _∙_, ap, subst}
-use mathlib.Core.Bool.{Bool, true, false, cond}
-use mathlib.Core.Logic.{_↔_, _⊎_, inl, inr, ⊎-elim}
-use mathlib.Core.List.{List, [], _∷_}
-use Prim.Native.Nat.{ℕ, suc, _+_, _-_, _*_, _<_, _≤_}
+use mathlib.Core.Path.{_≡_}
+use mathlib.Core.Bool.{Bool, false}
+use mathlib.Core.Logic.{_↔_, ⊎-elim}
+use mathlib.Core.List.{List}
+use Prim.Native.Nat.{ℕ, _+_, _-_, _<_, _≤_}
 use native.Mathlib.Nat.{eq-zero-or-pos}
 use native.Mathlib.Omega.{arith}
-use lib.Dec.{eqb, ltb, leb}
-use borrow.Author.Tests.{eq-eqb, ne-eqb, lt-ltb, leb-true, le-leb}
+use lib.Dec.{eqb, leb}
+use borrow.Author.Tests.{ne-eqb, lt-ltb, leb-true, le-leb}
 use Rattle.words.specs.Lists.{Exact}
-use Rattle.words.specs.Words.{Word}
-use Rattle.words.specs.Order.{Less}
-use Rattle.words.proofs.Exact.{no-exact, exact-as, eqb-exact}
-use Rattle.meaning.specs.Table.{Class, unused, call, return, internal, MarkFits, Row, rowKey}
+use Rattle.words.proofs.Exact.{no-exact, eqb-exact}
+use Rattle.meaning.specs.Table.{unused, call, return, internal, MarkFits}
 use Rattle.table.specs.File.{byte, classOf, classAt, rowStart, rowAt}
 
 -- the marker that each class asks for

@@ -1,11 +1,10 @@
 -- Rows looked at one after the other: what is known of those passed, and of all at the end. Assumes nothing.
 use mathlib.Core.Path.{_≡_, subst}
 use mathlib.Core.List.{List}
-use Prim.Native.Nat.{ℕ, _+_, _*_, _<_, _≤_}
+use Prim.Native.Nat.{ℕ, _+_, _<_, _≤_}
 use native.Mathlib.Omega.{arith}
-use lib.ListN.{length}
 use borrow.Author.Count.{below-more}
-use Rattle.table.specs.File.{rowCount, rowStart, rowAt}
+use Rattle.table.specs.File.{rowCount, rowAt}
 use Rattle.table.specs.Good.{Edition, Contents, RowFits, Rising, Rows}
 use Rattle.table.specs.Calls.{RowIn, WordIn, Headed}
 
@@ -13,7 +12,8 @@ use Rattle.table.specs.Calls.{RowIn, WordIn, Headed}
 pub row-in : {E : Edition} (file : List ℕ) (i : ℕ) → Contents E file → i < rowCount file → RowIn file i
 row-in file i c l = let f = c .fill in omega arith
 
-pub word-in : {E : Edition} (file : List ℕ) (i : ℕ) → Contents E file → i < rowCount file → RowFits file i → WordIn file i
+pub word-in : {E : Edition} (file : List ℕ) (i : ℕ) → Contents E file → i < rowCount file → RowFits file i
+    → WordIn file i
 word-in file i c l r = record { row = row-in file i c l; word = let f = c .fill in let w = r .word in omega arith }
 
 -- row `i` and those before it fit and rise, and the last has this head
@@ -39,7 +39,8 @@ passed-next p l f h r =
     record { within = l; fit = below-more _ _ (p .fit) f; rise = below-more _ _ (p .rise) r; headed = h }
 
 pub passed-all : {file : List ℕ} {i last : ℕ} → Passed file i last → rowCount file ≤ i + 1 → Rows file
-passed-all p l = record { fit = λ k m. p .fit k (omega arith); rise = λ k m. p .rise k (let w = p .within in omega arith) }
+passed-all p l =
+    record { fit = λ k m. p .fit k (omega arith); rise = λ k m. p .rise k (let w = p .within in omega arith) }
 
 pub none-passed : (file : List ℕ) → rowCount file ≡ 0 → Rows file
 none-passed file e = record { fit = λ k m. absurd (omega arith); rise = λ k m. absurd (omega arith) }

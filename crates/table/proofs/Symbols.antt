@@ -1,15 +1,13 @@
 -- Rows rise by symbol, so that halving finds the first row of one. Assumes nothing.
 use mathlib.Core.Path.{_≡_}
 use mathlib.Core.Logic.{_⊎_, inl, inr}
-use mathlib.Core.List.{List, _∷_}
+use mathlib.Core.List.{List}
 use Prim.Native.Nat.{ℕ, zero, suc, _+_, _-_, _<_, _≤_}
 use native.Mathlib.Nat.{eq-zero-or-pos}
 use native.Mathlib.Numerals.{add-one}
 use native.Mathlib.Omega.{arith}
-use Rattle.words.specs.Words.{Word}
-use Rattle.words.specs.Order.{Less}
 use Rattle.table.specs.File.{rowCount, rowAt}
-use Rattle.table.specs.Good.{Rising, Rows}
+use Rattle.table.specs.Good.{Rows}
 use Rattle.table.specs.Calls.{FirstRow}
 
 first-up : {x y : ℕ} {Q : Type 0} → (x < y) ⊎ ((x ≡ y) × Q) → x ≤ y

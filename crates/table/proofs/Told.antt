@@ -1,12 +1,17 @@
--- What `check` told, and that it can tell one thing only. Assumes nothing.
-use mathlib.Core.Path.{_≡_, refl}
+-- What `check` told, and that it, `class_of` and `first_row` can tell one thing only. Assumes nothing.
+use mathlib.Core.Path.{_≡_, refl, sym, _∙_, ap}
+use mathlib.Core.Logic.{_⊎_, inl, inr}
 use mathlib.Core.List.{List}
-use Prim.Native.Nat.{ℕ}
+use Prim.Native.Nat.{ℕ, _-_, _<_}
+use native.Mathlib.Nat.{eq-zero-or-pos}
 use native.Mathlib.Omega.{arith}
+use Rattle.meaning.specs.Table.{Class as Kind, unused, call, return, internal}
 use Rattle.table.specs.Good.{first, Good}
-use Rattle.table.specs.Calls.{Checked}
+use Rattle.table.specs.Calls.{Checked, meant, FirstRow}
 use Rattle.table.specs.declared.Verdict.{Verdict}
 use Rattle.table.specs.declared.Verdict.the-variants.{Taken, BadTable}
+use Rattle.table.specs.declared.read.Class.{Class}
+use Rattle.table.specs.declared.read.Class.the-variants.{Unused, Call, Return, Internal}
 
 pub told-taken : (file : List ℕ) → Good first file → Checked file Taken
 told-taken file g =
@@ -22,3 +27,34 @@ checked-unique file Taken Taken c d = refl
 checked-unique file Taken BadTable c d = let e = d .good .1 (c .good .0 refl) in absurd (omega arith)
 checked-unique file BadTable Taken c d = let e = c .good .1 (d .good .0 refl) in absurd (omega arith)
 checked-unique file BadTable BadTable c d = refl
+
+-- so are two answers of `class_of`,
+pub meant-unique : (r q : Class) → meant r ≡ meant q → r ≡ q
+meant-unique r q e = sym (back-is r) ∙ ap back e ∙ back-is q
+  where
+    back : Kind → Class
+    back unused = Unused
+    back call = Call
+    back return = Return
+    back internal = Internal
+
+    back-is : (r : Class) → back (meant r) ≡ r
+    back-is Unused = refl
+    back-is Call = refl
+    back-is Return = refl
+    back-is Internal = refl
+
+-- and two of `first_row`
+pub first-row-unique : (file : List ℕ) (symbol r q : ℕ) → FirstRow file symbol r → FirstRow file symbol q → r ≡ q
+first-row-unique file symbol r q f g = go (eq-zero-or-pos (q - r)) (eq-zero-or-pos (r - q))
+  where
+    apart : (r q : ℕ) → FirstRow file symbol r → FirstRow file symbol q → r < q → ⊥
+    apart r q f g l =
+        let a = g .before r l in
+        let b = f .onward r (omega arith) (let w = g .within in omega arith) in
+        omega arith
+
+    go : (q - r ≡ 0) ⊎ (0 < q - r) → (r - q ≡ 0) ⊎ (0 < r - q) → r ≡ q
+    go (inl d) (inl e) = omega arith
+    go (inr d) e = absurd (apart r q f g (omega arith))
+    go (inl d) (inr e) = absurd (apart q r g f (omega arith))

@@ -1,6 +1,5 @@
 -- When all members of a set stand below a number of states. Assumes nothing.
-use mathlib.Core.Path.{_≡_}
-use Prim.Native.Nat.{ℕ, _*_, _/_, _^_, _<_, _≤_}
+use Prim.Native.Nat.{ℕ, _/_, _^_, _<_, _≤_}
 use native.Mathlib.Nat.{pow-le-pow-right, div-eq-of-lt, div-lt-iff-lt-mul}
 use native.Mathlib.Omega.{arith}
 use lib.Dec.{eqb}

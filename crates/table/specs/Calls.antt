@@ -4,8 +4,7 @@ use mathlib.Core.Logic.{_↔_}
 use mathlib.Core.List.{List}
 use Prim.Native.Nat.{ℕ, _+_, _*_, _<_, _≤_}
 use lib.ListN.{length}
-use Rattle.meaning.specs.Table.{Row}
-use Rattle.meaning.specs.Table as Meaning
+use Rattle.meaning.specs.Table.{Class as Kind, unused, call, return, internal, Row}
 use Rattle.table.specs.File.{byte, two, rowCount, rowStart, wordsStart, rowAt}
 use Rattle.table.specs.Good.{first, Good}
 use Rattle.table.specs.declared.Verdict.{Verdict}
@@ -24,11 +23,11 @@ pub record Checked (file : List ℕ) (r : Verdict) : Type 0 where
   pub bad : (numberOf r ≡ 1) ↔ (Good first file → ⊥)
 
 -- the class that a variant stands for
-abbrev pub meant : Class → Meaning.Class
-meant Unused = Meaning.unused
-meant Call = Meaning.call
-meant Return = Meaning.return
-meant Internal = Meaning.internal
+abbrev pub meant : Class → Kind
+meant Unused = unused
+meant Call = call
+meant Return = return
+meant Internal = internal
 
 -- rows before `r` have lower symbols, those from there on have this one or higher
 pub record FirstRow (file : List ℕ) (symbol r : ℕ) : Type 0 where

@@ -19,7 +19,7 @@ two file i = byte file i + 256 * byte file (i + 1)
 unfoldable pub eight : List ℕ → ℕ → ℕ
 eight file i = two file i + 65536 * (two file (i + 2) + 65536 * (two file (i + 4) + 65536 * two file (i + 6)))
 
--- "rows (8 bytes each)", from byte 300, and the words behind them; their lengths stand in the fourth and the fifth entry
+-- "rows (8 bytes each)", from byte 300, and the words behind them; their lengths stand in the fourth and fifth entry
 abbrev pub rowCount : List ℕ → ℕ
 rowCount file = two file 22 / 8
 

@@ -1,4 +1,5 @@
--- What must be believed of rule files, in reading order: which byte says what, when a file is good, the table it stands for.
+-- What must be believed of rule files, in reading order: sets of states, which byte says what and the table that a file
+-- stands for, when a file is good, and what the calls answer.
 pub mod Sets
 pub mod File
 pub mod Good

@@ -2,7 +2,8 @@
 use mathlib.Core.Path.{_≡_, refl, sym, _∙_, ap}
 use mathlib.Core.Bool.{Bool, true, false, cond, false≢true}
 use mathlib.Core.Logic.{_⊎_, inl, inr}
-use mathlib.Core.List.{List, [], _∷_, List·Memᴰ·head, List·Memᴰ·tail, List·Memᴰ·cases-cons}
+use mathlib.Core.List.{List, [], _∷_, _++_, List·Memᴰ·append-cases, List·Memᴰ·head, List·Memᴰ·tail}
+use mathlib.Core.List.{List·Memᴰ·cases-cons}
 use Prim.Native.Nat.{ℕ}
 use native.Mathlib.Omega.{arith}
 use lib.Dec.{eqb, ltb}
@@ -125,3 +126,13 @@ module _ {A : Type 0} (key : A → Word) where
   pub rises-distinct : (l : List A) → Rises key l → Distinct l
   rises-distinct [] r = tt
   rises-distinct (x ∷ l) r = (λ m. less-self (key x) (r .0 x m), rises-distinct l (r .1))
+
+  pub rises-append : (l m : List A) → Rises key l → Rises key m
+      → ((x y : A) → x among l → y among m → Less (key x) (key y)) → Rises key (l ++ m)
+  rises-append [] m r s h = s
+  rises-append (x ∷ l) m r s h =
+      (λ y i. go y (List·Memᴰ·append-cases l i), rises-append l m (r .1) s (λ a b i. h a b (List·Memᴰ·tail i)))
+    where
+      go : (y : A) → (y among l) ⊎ (y among m) → Less (key x) (key y)
+      go y (inl i) = r .0 y i
+      go y (inr i) = h x y (List·Memᴰ·head refl) i

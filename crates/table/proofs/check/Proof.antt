@@ -1,3 +1,4 @@
+-- `table::check` meets its contract: a file is taken when each part grants it, in file order. Assumes nothing.
 use native.Mathlib.Omega.{arith}
 use Rattle.words.proofs.Exact.{denied, granted}
 use Rattle.table.proofs.Told.{told-taken, told-bad}
@@ -24,25 +25,33 @@ returns-3 : tie.Need-returns-3
 returns-3 c = told-bad _ (λ g. denied (c .before .classes .ensures) (c .if3 .taken) (g .classes))
 
 sets-requires : tie.Need-sets-requires
-sets-requires c κs = let k = granted (c .before .before .before .contents .ensures) (c .before .before .if2 .left) in omega arith
+sets-requires c κs =
+    let after-contents = c .before .before in
+    let k = granted (after-contents .before .contents .ensures) (after-contents .if2 .left) in omega arith
 
 returns-4 : tie.Need-returns-4
 returns-4 c = told-bad _ (λ g. denied (c .before .sets .ensures) (c .if4 .taken) (g .sets))
 
 rows-requires : tie.Need-rows-requires
-rows-requires c κs = granted (c .before .before .before .before .before .contents .ensures) (c .before .before .before .before .if2 .left)
+rows-requires c κs =
+    let after-contents = c .before .before .before .before in
+    granted (after-contents .before .contents .ensures) (after-contents .if2 .left)
 
 returns-5 : tie.Need-returns-5
 returns-5 c = told-bad _ (λ g. denied (c .before .rows .ensures) (c .if5 .taken) (g .rows))
 
 returns-6 : tie.Need-returns-6
 returns-6 c =
+    let after-sets = c .before .before in
+    let after-classes = after-sets .before .before in
+    let after-contents = after-classes .before .before in
+    let after-head = after-contents .before .before in
     told-taken _
     (record {
-      head = granted (c .before .before .before .before .before .before .before .before .before .head .ensures) (c .before .before .before .before .before .before .before .before .if1 .left);
-      contents = granted (c .before .before .before .before .before .before .before .contents .ensures) (c .before .before .before .before .before .before .if2 .left);
-      classes = granted (c .before .before .before .before .before .classes .ensures) (c .before .before .before .before .if3 .left);
-      sets = granted (c .before .before .before .sets .ensures) (c .before .before .if4 .left);
+      head = granted (after-head .before .head .ensures) (after-head .if1 .left);
+      contents = granted (after-contents .before .contents .ensures) (after-contents .if2 .left);
+      classes = granted (after-classes .before .classes .ensures) (after-classes .if3 .left);
+      sets = granted (after-sets .before .sets .ensures) (after-sets .if4 .left);
       rows = granted (c .before .rows .ensures) (c .if5 .left);
     })
 

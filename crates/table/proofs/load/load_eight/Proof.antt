@@ -1,3 +1,4 @@
+-- `table::load::load_eight` meets its contract. Assumes nothing.
 use native.Mathlib.Omega.{arith}
 use Rattle.table.specs.File.{eight}
 use borrow.Author.Needs.{needs}

@@ -1,3 +1,4 @@
+-- `table::parts::classes` meets its contract: the bytes passed are small just when all together are. Assumes nothing.
 use Prim.Native.Nat.{_-_, _≤_, _<_}
 use lib.ListN.{length}
 use native.Mathlib.Omega.{arith}

@@ -1,3 +1,4 @@
+-- `table::parts::contents` meets its contract. Assumes nothing.
 use native.Mathlib.Omega.{arith}
 use Rattle.words.proofs.Exact.{no-exact, yes-exact, denied, granted}
 use borrow.Author.Needs.{needs}
@@ -38,7 +39,9 @@ entry-requires-4 : tie.Need-entry-requires-4
 entry-requires-4 c κs = search needs
 
 returns-6 : tie.Need-returns-6
-returns-6 c = no-exact (λ h. denied (c .before .entry4 .ensures) (c .if6 .taken) (record { starts = omega arith; lasts = omega arith }))
+returns-6 c =
+    no-exact
+    (λ h. denied (c .before .entry4 .ensures) (c .if6 .taken) (record { starts = omega arith; lasts = omega arith }))
 
 load-two-requires-2 : tie.Need-load-two-requires-2
 load-two-requires-2 c κs = search needs
@@ -56,7 +59,9 @@ entry-requires-5 : tie.Need-entry-requires-5
 entry-requires-5 c κs = search needs
 
 returns-8 : tie.Need-returns-8
-returns-8 c = no-exact (λ h. denied (c .before .entry5 .ensures) (c .if8 .taken) (record { starts = omega arith; lasts = omega arith }))
+returns-8 c =
+    no-exact
+    (λ h. denied (c .before .entry5 .ensures) (c .if8 .taken) (record { starts = omega arith; lasts = omega arith }))
 
 mul-if9 : tie.Need-mul-if9
 mul-if9 c = search needs
@@ -72,14 +77,19 @@ returns-9 c = no-exact (λ h. omega arith)
 
 returns-10 : tie.Need-returns-10
 returns-10 c =
-    let rows = granted (c .before .before .before .before .before .before .entry4 .ensures) (c .before .before .before .before .before .if6 .left) in
-    let words = granted (c .before .before .entry5 .ensures) (c .before .if8 .left) in
+    let after-words = c .before in
+    let after-rows = after-words .before .before .before .before in
+    let after-final = after-rows .before .before .before .before in
+    let after-starting = after-final .before .before in
+    let after-classes = after-starting .before .before in
+    let rows = granted (after-rows .before .entry4 .ensures) (after-rows .if6 .left) in
+    let words = granted (after-words .before .entry5 .ensures) (after-words .if8 .left) in
     yes-exact
     (record {
       long = omega arith;
-      classes = granted (c .before .before .before .before .before .before .before .before .before .before .before .before .before .before .entry .ensures) (c .before .before .before .before .before .before .before .before .before .before .before .before .before .if2 .left);
-      starting = granted (c .before .before .before .before .before .before .before .before .before .before .before .before .entry2 .ensures) (c .before .before .before .before .before .before .before .before .before .before .before .if3 .left);
-      final = granted (c .before .before .before .before .before .before .before .before .before .before .entry3 .ensures) (c .before .before .before .before .before .before .before .before .before .if4 .left);
+      classes = granted (after-classes .before .entry .ensures) (after-classes .if2 .left);
+      starting = granted (after-starting .before .entry2 .ensures) (after-starting .if3 .left);
+      final = granted (after-final .before .entry3 .ensures) (after-final .if4 .left);
       rows = record { starts = omega arith; lasts = omega arith };
       count = omega arith;
       words = record { starts = omega arith; lasts = omega arith };

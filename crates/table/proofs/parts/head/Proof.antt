@@ -1,3 +1,4 @@
+-- `table::parts::head` meets its contract. Assumes nothing.
 use native.Mathlib.Omega.{arith}
 use Rattle.words.proofs.Exact.{no-exact}
 use borrow.Author.Needs.{needs}

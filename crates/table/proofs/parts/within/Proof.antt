@@ -1,4 +1,4 @@
-use lib.ListN.{set}
+-- `table::parts::within` meets its contract: no digit is left when the low ones are shifted out. Assumes nothing.
 use native.Mathlib.Omega.{arith}
 use Rattle.words.proofs.Exact.{yes-exact}
 use Rattle.table.proofs.Within.{wide-enough, shift-exact}

@@ -1,3 +1,4 @@
+-- `table::read::class_of` meets its contract. Assumes nothing.
 use mathlib.Core.Path.{_≡_, sym, ap, _∙_}
 use Prim.Native.Nat.{ℕ, _+_}
 use native.Mathlib.Omega.{arith}
@@ -8,10 +9,15 @@ use Rattle.table.proofs.read.class_of.Statement.{statement}
 use Rattle.table.proofs.read.class_of.Tie as tie
 
 -- the byte that was read says the symbol's class
-class-told : (c : tie.After-wide2) → classAt (c .before .before .before .before .args .file .now) (c .before .before .before .before .args .symbol) ≡ classOf (c .wide2 .result)
+class-told : (c : tie.After-wide2)
+    → let args = c .before .before .before .before .args in
+    classAt (args .file .now) (args .symbol) ≡ classOf (c .wide2 .result)
 class-told c =
-    class-at (c .before .before .before .before .args .file .now) (c .before .before .before .before .args .symbol) (c .wide2 .result) (omega arith)
-    (c .wide2 .ensures .0 ∙ ap (λ (n : ℕ). byte (c .before .before .before .before .args .file .now) (28 + n)) (c .before .before .wide .ensures .0))
+    let after-symbol = c .before .before in
+    let args = after-symbol .before .before .args in
+    let symbol-read = after-symbol .wide .ensures .0 in
+    let class-read = c .wide2 .ensures .0 ∙ ap (λ (n : ℕ). byte (args .file .now) (28 + n)) symbol-read in
+    class-at (args .file .now) (args .symbol) (c .wide2 .result) (omega arith) class-read
 
 wide-requires : tie.Need-wide-requires
 wide-requires c κs = search needs
@@ -39,7 +45,9 @@ returns-3 c = sym (class-told (c .before .before .before) ∙ class-return (c .i
 
 returns-4 : tie.Need-returns-4
 unfolding tableOf
-returns-4 c = sym (class-told (c .before .before .before) ∙ class-internal {k = c .before .before .before .wide2 .result} (omega arith))
+returns-4 c =
+    let after-class = c .before .before .before in
+    sym (class-told after-class ∙ class-internal {k = after-class .wide2 .result} (omega arith))
 
 pub class-of-spec : {M : Type 1} → statement M
 class-of-spec =

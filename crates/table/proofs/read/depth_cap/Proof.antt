@@ -1,3 +1,4 @@
+-- `table::read::depth_cap` meets its contract. Assumes nothing.
 use Rattle.table.specs.File.{tableOf}
 use borrow.Author.Needs.{needs}
 use Rattle.table.proofs.read.depth_cap.Statement.{statement}

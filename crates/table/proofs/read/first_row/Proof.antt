@@ -1,3 +1,4 @@
+-- `table::read::first_row` meets its contract: the row looked for lies from low to high. Assumes nothing.
 use mathlib.Core.Path.{_≡_}
 use Prim.Native.Nat.{_-_}
 use native.Mathlib.Omega.{arith}
@@ -19,7 +20,9 @@ row-count-requires : tie.Need-row-count-requires Inv-loop μ-loop
 row-count-requires c κs = search needs
 
 loop-holds : tie.Need-loop-holds Inv-loop μ-loop
-loop-holds c = (omega arith, rw (c .row-count .ensures) (between-all (c .before .before .before .args .file .now) (c .before .before .before .args .symbol)))
+loop-holds c =
+    let args = c .before .before .before .args in
+    (omega arith, rw (c .row-count .ensures) (between-all (args .file .now) (args .symbol)))
 
 sub-middle : tie.Need-sub-middle Inv-loop μ-loop
 sub-middle c = search needs
@@ -38,16 +41,20 @@ loop-less c = search needs
 
 loop-again : tie.Need-loop-again Inv-loop μ-loop
 loop-again c =
-    let b = c .before .before .before .loop .inv in
-    (b .0, between-up _ (c .before .before .before .before .before .before .before .pre .rows) (b .1) _ (omega arith) (omega arith) (omega arith))
+    let at-loop = c .before .before .before in
+    let good = at-loop .before .before .before .before .pre in
+    let inv = at-loop .loop .inv in
+    (inv .0, between-up _ (good .rows) (inv .1) _ (omega arith) (omega arith) (omega arith))
 
 loop-less-2 : tie.Need-loop-less-2 Inv-loop μ-loop
 loop-less-2 c = search needs
 
 loop-again-2 : tie.Need-loop-again-2 Inv-loop μ-loop
 loop-again-2 c =
-    let b = c .before .before .before .loop .inv in
-    (b .0, between-down _ (c .before .before .before .before .before .before .before .pre .rows) (b .1) _ (omega arith) (omega arith) (omega arith))
+    let at-loop = c .before .before .before in
+    let good = at-loop .before .before .before .before .pre in
+    let inv = at-loop .loop .inv in
+    (inv .0, between-down _ (good .rows) (inv .1) _ (omega arith) (omega arith) (omega arith))
 
 returns : tie.Need-returns Inv-loop μ-loop
 returns c = between-one (c .before .loop .inv .1) (omega arith)

@@ -1,3 +1,4 @@
+-- `table::read::states` meets its contract. Assumes nothing.
 use Rattle.table.specs.File.{tableOf}
 use borrow.Author.Needs.{needs}
 use Rattle.table.proofs.read.states.Statement.{statement}

@@ -1,3 +1,4 @@
+-- `table::read::waiting_cap` meets its contract. Assumes nothing.
 use Rattle.table.specs.File.{tableOf}
 use borrow.Author.Needs.{needs}
 use Rattle.table.proofs.read.waiting_cap.Statement.{statement}

@@ -1,3 +1,4 @@
+-- `table::rows::mark_fits` meets its contract. Assumes nothing.
 use mathlib.Core.Path.{ap, _∙_}
 use Prim.Native.Nat.{ℕ, _+_}
 use native.Mathlib.Omega.{arith}
@@ -48,11 +49,15 @@ mark-suits-requires c κs = search needs
 
 returns : tie.Need-returns
 returns c =
-    mark-at (c .before .before .before .before .before .before .before .before .before .before .args .file .now) (c .before .before .before .before .before .before .before .before .before .before .args .i)
-    (c .before .before .before .before .before .wide2 .result) (c .before .before .before .wide3 .result) (c .before .wide4 .result)
-    (omega arith)
-    (c .before .before .before .before .before .wide2 .ensures .0 ∙ ap (λ (n : ℕ). byte (c .before .before .before .before .before .before .before .before .before .before .args .file .now) (28 + n)) (c .before .before .before .before .before .before .before .wide .ensures .0))
-    (omega arith) (omega arith) (c .mark-suits .ensures)
+    let after-marker = c .before in
+    let after-markers = after-marker .before .before in
+    let after-class = after-markers .before .before in
+    let after-symbol = after-class .before .before in
+    let args = after-symbol .before .before .before .args in
+    let symbol-read = after-symbol .wide .ensures .0 in
+    let class-read = after-class .wide2 .ensures .0 ∙ ap (λ (n : ℕ). byte (args .file .now) (28 + n)) symbol-read in
+    mark-at (args .file .now) (args .i) (after-class .wide2 .result) (after-markers .wide3 .result)
+    (after-marker .wide4 .result) (omega arith) class-read (omega arith) (omega arith) (c .mark-suits .ensures)
 
 pub mark-fits-spec : {M : Type 1} → statement M
 mark-fits-spec =

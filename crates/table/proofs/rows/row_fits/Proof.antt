@@ -1,3 +1,4 @@
+-- `table::rows::row_fits` meets its contract. Assumes nothing.
 use native.Mathlib.Omega.{arith}
 use Rattle.words.proofs.Exact.{no-exact, yes-exact, denied, granted}
 use borrow.Author.Needs.{needs}
@@ -84,9 +85,12 @@ returns-5 c = no-exact (λ h. omega arith)
 
 returns-6 : tie.Need-returns-6
 returns-6 c =
+    let after-to = c .before .before .before .before .before .before .before .before in
+    let after-from = after-to .before .before .before in
+    let after-marker = after-from .before .before .before .before .before in
     yes-exact
     (record {
-      marker = granted (c .before .before .before .before .before .before .before .before .before .before .before .before .before .before .before .before .before .mark-fits .ensures) (c .before .before .before .before .before .before .before .before .before .before .before .before .before .before .before .before .if1 .left);
+      marker = granted (after-marker .before .mark-fits .ensures) (after-marker .if1 .left);
       from = omega arith;
       to = omega arith;
       word = omega arith;

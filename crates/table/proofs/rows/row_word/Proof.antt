@@ -1,3 +1,4 @@
+-- `table::rows::row_word` meets its contract. Assumes nothing.
 use native.Mathlib.Nat.{add-sub-cancel-left}
 use borrow.Author.Needs.{needs}
 use Rattle.table.proofs.rows.row_word.Statement.{statement}

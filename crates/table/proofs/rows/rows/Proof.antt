@@ -1,3 +1,4 @@
+-- `table::rows::rows` meets its contract: rows up to i fit and rise, and last is the head of i. Assumes nothing.
 use mathlib.Core.Path.{_≡_}
 use Prim.Native.Nat.{_-_}
 use native.Mathlib.Omega.{arith}
@@ -30,7 +31,9 @@ row-head-requires : tie.Need-row-head-requires Inv-loop μ-loop
 row-head-requires c κs = search needs
 
 loop-holds : tie.Need-loop-holds Inv-loop μ-loop
-loop-holds c = (omega arith, passed-start _ _ (omega arith) (granted (c .before .before .row-fits .ensures) (c .before .if2 .left)) (c .row-head .ensures))
+loop-holds c =
+    let fits = granted (c .before .before .row-fits .ensures) (c .before .if2 .left) in
+    (omega arith, passed-start _ _ (omega arith) fits (c .row-head .ensures))
 
 add-loop : tie.Need-add-loop Inv-loop μ-loop
 add-loop c = omega arith
@@ -49,10 +52,12 @@ row-head-requires-2 c κs = search needs
 
 rises-requires : tie.Need-rises-requires Inv-loop μ-loop
 rises-requires c κs =
-    let p = c .before .before .before .before .loop .inv .1 in
-    let f = granted (c .before .before .row-fits2 .ensures) (c .before .if3 .left) in (
-      (word-in _ _ (c .before .before .before .before .before .before .before .before .before .before .before .pre) (p .within) (p .fit _ (omega arith)), p .headed),
-      (word-in _ _ (c .before .before .before .before .before .before .before .before .before .before .before .pre) (omega arith) f, c .row-head2 .ensures),
+    let at-loop = c .before .before .before .before in
+    let contents = at-loop .before .before .before .before .before .before .before .pre in
+    let passed = at-loop .loop .inv .1 in
+    let fits = granted (c .before .before .row-fits2 .ensures) (c .before .if3 .left) in (
+      (word-in _ _ contents (passed .within) (passed .fit _ (omega arith)), passed .headed),
+      (word-in _ _ contents (omega arith) fits, c .row-head2 .ensures),
     )
 
 returns-4 : tie.Need-returns-4 Inv-loop μ-loop
@@ -63,11 +68,12 @@ loop-less c = omega arith
 
 loop-again : tie.Need-loop-again Inv-loop μ-loop
 loop-again c =
-    let p = c .before .before .before .before .before .before .loop .inv in (
-      p .0,
-      passed-next (p .1) (omega arith) (granted (c .before .before .before .before .row-fits2 .ensures) (c .before .before .before .if3 .left)) (c .before .before .row-head2 .ensures)
-          (granted (c .before .rises .ensures) (c .if4 .left)),
-    )
+    let after-head = c .before .before in
+    let after-fits = after-head .before in
+    let inv = after-fits .before .before .before .loop .inv in
+    let fits = granted (after-fits .before .row-fits2 .ensures) (after-fits .if3 .left) in
+    let rises = granted (c .before .rises .ensures) (c .if4 .left) in
+    (inv .0, passed-next (inv .1) (omega arith) fits (after-head .row-head2 .ensures) rises)
 
 returns-5 : tie.Need-returns-5 Inv-loop μ-loop
 returns-5 c = yes-exact (passed-all (c .before .loop .inv .1) (omega arith))

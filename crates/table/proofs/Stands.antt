@@ -1,0 +1,116 @@
+-- The table that a good file stands for is a good table. Assumes nothing.
+use mathlib.Core.Path.{_≡_, refl, _∙_, subst}
+use mathlib.Core.List.{List, [], _∷_, map, map-append, Memᴰ·of-map, List·Memᴰ·head, List·Memᴰ·tail}
+use mathlib.Core.List.{List·Memᴰ·eq-of-singleton}
+use mathlib.Core.Logic.{_⊎_, inl, inr}
+use Prim.Native.Nat.{ℕ, zero, suc, _+_, _-_, _^_, _<_, _≤_}
+use native.Mathlib.Nat.{eq-zero-or-pos}
+use native.Mathlib.Numerals.{add-one}
+use native.Mathlib.Omega.{arith}
+use lib.ListN.{length, length-map, length-append, length-take, getD, take, drop}
+use lib.Seq.{getD-drop}
+use borrow.Author.Tests.{le-ltb}
+use Rattle.words.specs.Lists.{_among_, upTo}
+use Rattle.words.specs.Order.{Less, Rises}
+use Rattle.words.proofs.Lists.{upTo-out}
+use Rattle.words.proofs.Order.{less-trans, rises-append}
+use Rattle.meaning.specs.Table.{rowKey, Row, GoodSet, GoodRow, Good as GoodTable}
+use Rattle.table.specs.Sets.{members}
+use Rattle.table.specs.File.{byte, two, eight, rowCount, rowStart, wordsStart, rowAt, tableOf}
+use Rattle.table.specs.Good.{Edition, Good, Rows}
+use Rattle.table.proofs.Members.{members-rise, members-below, members-some}
+
+-- the file holds bytes
+abbrev pub Bytes : List ℕ → Type 0
+Bytes file = (k : ℕ) → getD file k 0 < 256
+
+-- what stands in a part of it is a byte
+byte-among : {b : ℕ} (l : List ℕ) → Bytes l → b among l → b < 256
+byte-among (x ∷ l) h (List·Memᴰ·head e) = let k = h 0 in omega arith
+byte-among (x ∷ l) h (List·Memᴰ·tail m) = byte-among l (λ k. h (suc k)) m
+
+drop-bytes : (l : List ℕ) (n : ℕ) → Bytes l → Bytes (drop n l)
+drop-bytes l n h k = rw getD-drop (h (n + k))
+
+take-among : {b : ℕ} (n : ℕ) (l : List ℕ) → b among take n l → b among l
+take-among zero l m = elim m [ ]
+take-among (suc n) [] m = elim m [ ]
+take-among (suc n) (x ∷ l) (List·Memᴰ·head e) = List·Memᴰ·head e
+take-among (suc n) (x ∷ l) (List·Memᴰ·tail m) = List·Memᴰ·tail (take-among n l m)
+
+-- rows each above the one before rise
+module _ (file : List ℕ) (rows : Rows file) where
+  above : (n i : ℕ) → i < n → n < rowCount file → Less (rowKey (rowAt file i)) (rowKey (rowAt file n))
+  above zero i h l = absurd (omega arith)
+  above (suc n) i h l = go (eq-zero-or-pos (n - i)) (above n i)
+    where
+      next : Less (rowKey (rowAt file n)) (rowKey (rowAt file (suc n)))
+      next = rw add-one at (rows .rise n (omega arith) .less)
+
+      go : (n - i ≡ 0) ⊎ (0 < n - i)
+          → (i < n → n < rowCount file → Less (rowKey (rowAt file i)) (rowKey (rowAt file n)))
+          → Less (rowKey (rowAt file i)) (rowKey (rowAt file (suc n)))
+      go (inl e) ih = let f : i ≡ n = omega arith in rw f next
+      go (inr p) ih =
+          less-trans (rowKey (rowAt file i)) (rowKey (rowAt file n)) (rowKey (rowAt file (suc n)))
+          (ih (omega arith) (omega arith)) next
+
+  rows-rise : (n : ℕ) → n ≤ rowCount file → Rises rowKey (map (rowAt file) (upTo n))
+  rows-rise zero h = tt
+  rows-rise (suc n) h =
+      rw (map-append (rowAt file) (upTo n) (n ∷ []))
+      (rises-append rowKey (map (rowAt file) (upTo n)) (rowAt file n ∷ []) (rows-rise n (omega arith))
+      (λ y m. elim m [ ], tt) (λ x y i k. go x y (Memᴰ·of-map (rowAt file) (upTo n) i) (List·Memᴰ·eq-of-singleton k)))
+    where
+      go : (x y : Row) → (j : ℕ) × (j among upTo n) × (rowAt file j ≡ x) → y ≡ rowAt file n
+          → Less (rowKey x) (rowKey y)
+      go x y j e = rw (e, ← j .2) (above n (j .0) (upTo-out n (j .0) (j .1)) (omega arith))
+
+length-upTo : (n : ℕ) → length (upTo n) ≡ n
+length-upTo zero = refl
+length-upTo (suc n) = length-append (upTo n) (n ∷ []) ∙ (let e = length-upTo n in omega arith)
+
+eight-below : (file : List ℕ) → Bytes file → (i : ℕ) → eight file i < 2 ^ 64
+unfolding eight
+eight-below file h i =
+    omega (arith, h i, h (i + 1), h (i + 2), h (i + 2 + 1), h (i + 4), h (i + 4 + 1), h (i + 6), h (i + 6 + 1))
+
+good-set : (n s : ℕ) → s < 2 ^ n → GoodSet n (members s)
+good-set n s h = record { rise = members-rise s; below = members-below n s h }
+
+-- of an edition whose words may have up to 255 bytes, as many as a row's length byte can say
+module _ {E : Edition} (wide : 255 ≤ E .limits .word) (file : List ℕ) (bytes : Bytes file) (g : Good E file) where
+  good-row : (i : ℕ) → i < rowCount file → GoodRow (E .limits) (tableOf file) (rowAt file i)
+  unfolding tableOf
+  good-row i l =
+      let f = g .rows .fit i l in
+      record {
+        from = f .from;
+        to = f .to;
+        marker = f .marker;
+        bytes = λ b m.
+            byte-among (drop (wordsStart file + two file (rowStart i + 4)) file)
+            (drop-bytes file (wordsStart file + two file (rowStart i + 4)) bytes)
+            (take-among (byte file (rowStart i + 6)) (drop (wordsStart file + two file (rowStart i + 4)) file) m);
+        short = simp length-take (let b = bytes (rowStart i + 6) in omega arith);
+      }
+
+  pub good-table : GoodTable (E .limits) (tableOf file)
+  unfolding tableOf
+  good-table =
+      record {
+        states = g .head .states;
+        markers = g .head .markers;
+        depthCap = g .head .depthCap;
+        waitingCap = g .head .waitingCap;
+        symbols = λ a h. rw (le-ltb a 256 h);
+        starting = good-set (byte file 1) (eight file 284) (g .sets .starting);
+        some = members-some (eight file 284) (g .sets .some) (eight-below file bytes 284);
+        final = good-set (byte file 1) (eight file 292) (g .sets .final);
+        count = simp (length-map, length-upTo) (g .contents .count);
+        row = λ r m.
+            let x = Memᴰ·of-map (rowAt file) (upTo (rowCount file)) m in
+            subst (GoodRow (E .limits) (tableOf file)) (x .2)
+            (good-row (x .0) (upTo-out (rowCount file) (x .0) (x .1)));
+        rise = rows-rise file (g .rows) (rowCount file) (omega arith);
+      }
