@@ -114,3 +114,8 @@ module _ {E : Edition} (wide : 255 ≤ E .limits .word) (file : List ℕ) (bytes
             (good-row (x .0) (upTo-out (rowCount file) (x .0) (x .1)));
         rise = rows-rise file (g .rows) (rowCount file) (omega arith);
       }
+
+-- its rows are the file's, in their order
+pub rows-of : (file : List ℕ) → tableOf file .rows ≡ map (rowAt file) (upTo (rowCount file))
+unfolding tableOf
+rows-of file = refl

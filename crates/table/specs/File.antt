@@ -57,7 +57,6 @@ classAt file a = cond (ltb a 256) (classOf (byte file (28 + a))) unused
 
 -- the table that a file stands for
 unfoldable pub tableOf : List ℕ → Table
-unfolding eight
 tableOf file =
     record {
       states = byte file 1;

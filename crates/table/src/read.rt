@@ -4,7 +4,8 @@ use crate::load::load_two;
 use words::wide;
 ghost use mathlib.Core.Path.{_≡_};
 ghost use Prim.Native.Nat.{_<_};
-ghost use Rattle.table.specs.File.{eight, rowCount, rowAt, tableOf};
+ghost use Rattle.table.specs.File.{rowCount, rowAt, tableOf};
+ghost use Rattle.table.specs.Sets.{members};
 ghost use Rattle.table.specs.Good.{first, Good};
 ghost use Rattle.table.specs.Calls.{meant, FirstRow};
 
@@ -38,14 +39,14 @@ pub fn waiting_cap(file: &[u8]) -> usize
 
 pub fn starting_set(file: &[u8]) -> u64
     requires { ⌜ Good first (now file) ⌝ }
-    ensures { λ r. ⌜ r ≡ eight (now (file .entry)) 284 ⌝ }
+    ensures { λ r. ⌜ members r ≡ tableOf (now (file .entry)) .starting ⌝ }
 {
     load_eight(file, 284)
 }
 
 pub fn final_set(file: &[u8]) -> u64
     requires { ⌜ Good first (now file) ⌝ }
-    ensures { λ r. ⌜ r ≡ eight (now (file .entry)) 292 ⌝ }
+    ensures { λ r. ⌜ members r ≡ tableOf (now (file .entry)) .final ⌝ }
 {
     load_eight(file, 292)
 }
