@@ -1,8 +1,8 @@
 -- The joined table of two good tables is good, if it is not too large. Assumes nothing.
 use mathlib.Core.Path.{_≡_, refl, sym, _∙_, subst}
 use mathlib.Core.Bool.{false, true≢false}
-use mathlib.Core.Logic.{_⊎_, inl, inr}
-use mathlib.Core.List.{List, [], _∷_, _++_, map, Memᴰ·of-map, List·Memᴰ·head, List·Memᴰ·tail, List·Memᴰ·append-cases}
+use mathlib.Core.Logic.{inl, inr}
+use mathlib.Core.List.{List, [], _∷_, map, Memᴰ·of-map}
 use Prim.Native.Nat.{ℕ, _<_, _≤_, _*_}
 use native.Mathlib.Nat.{mul-le-mul-right, mul-pos}
 use native.Mathlib.Omega.{arith}
@@ -11,7 +11,7 @@ use borrow.Author.Tests.{not-false}
 use Rattle.words.specs.Lists.{_among_}
 use Rattle.words.specs.Order.{Less, Rises}
 use Rattle.words.proofs.Lists.{each-out}
-use Rattle.words.proofs.Order.{rises-append}
+use Rattle.words.proofs.Order.{first-less, rises-map, rises-append}
 use Rattle.words.proofs.Arranged.{rank-below}
 use Rattle.meaning.specs.Table.{Class, unused, call, return, internal, Row, Table, Limits, MarkFits, GoodSet}
 use Rattle.meaning.specs.Table.{GoodRow, Good}
@@ -34,22 +34,12 @@ pair-below m n p q h k = let l = mul-le-mul-right n h in omega arith
 abbrev Rising : List ℕ → Type 0
 Rising l = Rises (λ q. q ∷ []) l
 
-first-less : {m n : ℕ} → Less (m ∷ []) (n ∷ []) → m < n
-first-less (inl h) = h
-first-less (inr h) = absurd (h .1)
-
-map-rises : (f : ℕ → ℕ) → ((a b : ℕ) → a < b → f a < f b) → (l : List ℕ) → Rising l → Rising (map f l)
-map-rises f h [] r = tt
-map-rises f h (x ∷ l) r = (λ y i. go y (Memᴰ·of-map f l i), map-rises f h l (r .1))
-  where
-    go : (y : ℕ) → (z : ℕ) × (z among l) × (f z ≡ y) → Less (f x ∷ []) (y ∷ [])
-    go y z = rw (← z .2) (inl (h x (z .0) (first-less (r .0 (z .0) (z .1)))))
-
 pairs-rise : (n : ℕ) (ps qs : List ℕ) → Rising ps → Rising qs → ((q : ℕ) → q among qs → q < n)
     → Rising (pairsOf n ps qs)
 pairs-rise n [] qs r s h = tt
 pairs-rise n (p ∷ ps) qs r s h =
-    rises-append (λ q. q ∷ []) (map (pair n p) qs) (pairsOf n ps qs) (map-rises (pair n p) (λ a b l. omega arith) qs s)
+    rises-append (λ q. q ∷ []) (map (pair n p) qs) (pairsOf n ps qs)
+    (rises-map (λ q. q ∷ []) (λ q. q ∷ []) (pair n p) (λ a b l. inl (omega (arith, first-less l))) qs s)
     (pairs-rise n ps qs (r .1) s h) (λ x y i k. go x y (Memᴰ·of-map (pair n p) qs i) (pairsOf-out n ps qs k))
   where
     go : (x y : ℕ) → (q : ℕ) × (q among qs) × (pair n p q ≡ x)

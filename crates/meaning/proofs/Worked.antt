@@ -76,14 +76,14 @@ passes (joining c) =
 
 -- the tables
 
-abbrev row : ℕ → ℕ → ℕ → ℕ → Word → Row
+abbrev pub row : ℕ → ℕ → ℕ → ℕ → Word → Row
 row a p q m w = record { symbol = a; from = p; to = q; marker = m; word = w }
 
-abbrev classG : ℕ → Class
+abbrev pub classG : ℕ → Class
 classG n = cond (eqb n 10) call (cond (eqb n 1) internal (cond (eqb n 11 || eqb n 12) return unused))
 
 -- `OK` 79 75, `ON` 79 78, `OJ` 79 74, `p` 112; `a` 97, `b` 98, `c` 99, `d` 100
-abbrev table : ℕ → ℕ → ℕ → List ℕ → List ℕ → List Row → Table
+abbrev pub table : ℕ → ℕ → ℕ → List ℕ → List ℕ → List Row → Table
 table n m depth start final rows =
     record {
       states = n;
@@ -96,7 +96,7 @@ table n m depth start final rows =
       rows = rows;
     }
 
-abbrev rowsG : List Row
+abbrev pub rowsG : List Row
 rowsG =
     row 10 0 1 1 (79 ∷ 75 ∷ [])
     ∷ row 10 0 2 1 (79 ∷ 78 ∷ [])
@@ -104,10 +104,10 @@ rowsG =
     ∷ row 12 2 3 1 []
     ∷ []
 
-abbrev ones : List Row
+abbrev pub ones : List Row
 ones = row 1 1 1 0 (112 ∷ []) ∷ row 1 2 2 0 (112 ∷ []) ∷ []
 
-abbrev G : Table
+abbrev pub G : Table
 G = table 4 1 4 (0 ∷ []) (3 ∷ []) (ones ++ rowsG)
 
 -- G with depth cap 1, and with call 10, 0 to 1, `OJ` too

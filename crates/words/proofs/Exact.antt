@@ -56,9 +56,15 @@ module _ {P : Type 0} where
       fro false g h p = false≢true (g p)
 
   module _ {Q : Type 0} where
+    -- the second is looked at where the first holds
+    pub then-exact : {a b : Bool} → Exact P a → (P → Exact Q b) → Exact (P × Q) (a && b)
+    then-exact {a} {b} e f = (
+      λ x. both (e .0 (x .0)) (f (x .0) .0 (x .1)),
+      λ h. let x = split a b h in let p = e .1 (x .0) in (p, f p .1 (x .1)),
+    )
+
     pub and-exact : {a b : Bool} → Exact P a → Exact Q b → Exact (P × Q) (a && b)
-    and-exact {a} {b} e f =
-        (λ x. both (e .0 (x .0)) (f .0 (x .1)), λ h. let x = split a b h in (e .1 (x .0), f .1 (x .1)))
+    and-exact e f = then-exact e (λ p. f)
 
     pub or-exact : {a b : Bool} → Exact P a → Exact Q b → Exact (P ⊎ Q) (a || b)
     or-exact {a} {b} e f = (to, λ h. fro (either a b h))

@@ -3,8 +3,8 @@ use mathlib.Core.Path.{_≡_, refl, sym, _∙_, ap}
 use mathlib.Core.Bool.{Bool, true, false, cond, false≢true}
 use mathlib.Core.Logic.{_⊎_, inl, inr}
 use mathlib.Core.List.{List, [], _∷_, _++_, List·Memᴰ·append-cases, List·Memᴰ·head, List·Memᴰ·tail}
-use mathlib.Core.List.{List·Memᴰ·cases-cons}
-use Prim.Native.Nat.{ℕ}
+use mathlib.Core.List.{List·Memᴰ·cases-cons, map, Memᴰ·of-map}
+use Prim.Native.Nat.{ℕ, _<_}
 use native.Mathlib.Omega.{arith}
 use lib.Dec.{eqb, ltb}
 use borrow.Author.Tests.{eqb-true, eqb-false, ltb-true, ltb-false, eq-eqb}
@@ -123,6 +123,17 @@ module _ {A : Type 0} (key : A → Word) where
       heads (inr m) (inl e) = sym e
       heads (inr m) (inr n) = absurd (less-self (key x) (less-trans (key x) (key y) (key x) (r .0 y n) (s .0 x m)))
 
+  -- in a rising list a key is there once
+  pub rises-one : (l : List A) → Rises key l → (x y : A) → x among l → y among l → key x ≡ key y → x ≡ y
+  rises-one (z ∷ l) r x y (List·Memᴰ·head a) (List·Memᴰ·head b) e = a ∙ sym b
+  rises-one (z ∷ l) r x y (List·Memᴰ·head a) (List·Memᴰ·tail n) e =
+      let k : key z ≡ key y = ap key (sym a) ∙ e in
+      absurd (less-self (key y) (rw k at (r .0 y n)))
+  rises-one (z ∷ l) r x y (List·Memᴰ·tail m) (List·Memᴰ·head b) e =
+      let k : key z ≡ key x = ap key (sym b) ∙ sym e in
+      absurd (less-self (key x) (rw k at (r .0 x m)))
+  rises-one (z ∷ l) r x y (List·Memᴰ·tail m) (List·Memᴰ·tail n) e = rises-one l (r .1) x y m n e
+
   pub rises-distinct : (l : List A) → Rises key l → Distinct l
   rises-distinct [] r = tt
   rises-distinct (x ∷ l) r = (λ m. less-self (key x) (r .0 x m), rises-distinct l (r .1))
@@ -136,3 +147,17 @@ module _ {A : Type 0} (key : A → Word) where
       go : (y : A) → (y among l) ⊎ (y among m) → Less (key x) (key y)
       go y (inl i) = r .0 y i
       go y (inr i) = h x y (List·Memᴰ·head refl) i
+
+pub first-less : {m n : ℕ} → Less (m ∷ []) (n ∷ []) → m < n
+first-less (inl h) = h
+first-less (inr h) = absurd (h .1)
+
+-- what a function that keeps the order makes of a rising list rises
+module _ {A B : Type 0} (key : A → Word) (key′ : B → Word) (f : A → B)
+    (keeps : (x y : A) → Less (key x) (key y) → Less (key′ (f x)) (key′ (f y))) where
+  pub rises-map : (l : List A) → Rises key l → Rises key′ (map f l)
+  rises-map [] r = tt
+  rises-map (x ∷ l) r = (λ y m. go y (Memᴰ·of-map f l m), rises-map l (r .1))
+    where
+      go : (y : B) → (z : A) × (z among l) × (f z ≡ y) → Less (key′ (f x)) (key′ y)
+      go y z = rw (← z .2) (keeps x (z .0) (r .0 (z .0) (z .1)))

@@ -1,0 +1,9 @@
+-- What follows of the definitions in `specs/`, one family of facts a file, each building on those before it.
+pub mod Tests
+pub mod Spells
+pub mod Same
+pub mod Listed
+pub mod Beginning
+pub mod Loads
+pub mod Soundly
+mod Worked

@@ -1,0 +1,1 @@
+// Sessions: what they stand for, and which are sound for a table.
