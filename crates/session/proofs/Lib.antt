@@ -6,4 +6,5 @@ pub mod Listed
 pub mod Beginning
 pub mod Loads
 pub mod Soundly
+pub mod Bytes
 mod Worked

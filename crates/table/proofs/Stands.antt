@@ -1,5 +1,5 @@
 -- The table that a good file stands for is a good table. Assumes nothing.
-use mathlib.Core.Path.{_≡_, refl, _∙_, subst}
+use mathlib.Core.Path.{_≡_, refl, subst}
 use mathlib.Core.List.{List, [], _∷_, map, map-append, Memᴰ·of-map, List·Memᴰ·head, List·Memᴰ·tail}
 use mathlib.Core.List.{List·Memᴰ·eq-of-singleton}
 use mathlib.Core.Logic.{_⊎_, inl, inr}
@@ -7,12 +7,12 @@ use Prim.Native.Nat.{ℕ, zero, suc, _+_, _-_, _^_, _<_, _≤_}
 use native.Mathlib.Nat.{eq-zero-or-pos}
 use native.Mathlib.Numerals.{add-one}
 use native.Mathlib.Omega.{arith}
-use lib.ListN.{length, length-map, length-append, length-take, getD, take, drop}
+use lib.ListN.{length-map, length-take, getD, take, drop}
 use lib.Seq.{getD-drop}
 use borrow.Author.Tests.{le-ltb}
 use Rattle.words.specs.Lists.{_among_, upTo}
 use Rattle.words.specs.Order.{Less, Rises}
-use Rattle.words.proofs.Lists.{upTo-out}
+use Rattle.words.proofs.Lists.{upTo-out, length-upTo}
 use Rattle.words.proofs.Order.{less-trans, rises-append}
 use Rattle.meaning.specs.Table.{rowKey, Row, GoodSet, GoodRow, Good as GoodTable}
 use Rattle.table.specs.Sets.{members}
@@ -65,10 +65,6 @@ module _ (file : List ℕ) (rows : Rows file) where
       go : (x y : Row) → (j : ℕ) × (j among upTo n) × (rowAt file j ≡ x) → y ≡ rowAt file n
           → Less (rowKey x) (rowKey y)
       go x y j e = rw (e, ← j .2) (above n (j .0) (upTo-out n (j .0) (j .1)) (omega arith))
-
-length-upTo : (n : ℕ) → length (upTo n) ≡ n
-length-upTo zero = refl
-length-upTo (suc n) = length-append (upTo n) (n ∷ []) ∙ (let e = length-upTo n in omega arith)
 
 eight-below : (file : List ℕ) → Bytes file → (i : ℕ) → eight file i < 2 ^ 64
 unfolding eight

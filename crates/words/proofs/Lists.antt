@@ -5,6 +5,7 @@ use mathlib.Core.Bool.{Bool, true, false, _&&_, _||_, false≢true}
 use mathlib.Core.List.{List, [], _∷_, _++_, map, map-append, append-assoc, List·Memᴰ·head, List·Memᴰ·tail, Memᴰ·cast}
 use mathlib.Core.List.{Memᴰ·of-map, Memᴰ·append-left, Memᴰ·append-right, List·Memᴰ·append-cases}
 use mathlib.Core.List.{List·Memᴰ·eq-of-singleton}
+use lib.ListN.{length, length-append}
 use Prim.Native.Nat.{ℕ, zero, suc, _<_, _-_}
 use native.Mathlib.Nat.{eq-zero-or-pos}
 use native.Mathlib.Omega.{arith}
@@ -203,6 +204,10 @@ upTo-out (suc n) q m = go (List·Memᴰ·append-cases (upTo n) m) (upTo-out n q)
     go (inr k) ih = let e = List·Memᴰ·eq-of-singleton k in omega arith
 
 -- isEmpty
+
+pub length-upTo : (n : ℕ) → length (upTo n) ≡ n
+length-upTo zero = refl
+length-upTo (suc n) = length-append (upTo n) (n ∷ []) ∙ (let e = length-upTo n in omega arith)
 
 pub empty-out : {A : Type 0} (l : List A) → isEmpty l ≡ true → l ≡ []
 empty-out [] e = refl

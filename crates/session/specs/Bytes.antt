@@ -1,0 +1,79 @@
+-- Which byte of a session says what: depth, count, five bytes for each link, two for each piece's length, and 512 places
+-- for each piece, one after the other.
+use mathlib.Core.Path.{_≡_}
+use mathlib.Core.Bool.{cond}
+use mathlib.Core.Option.{some, none}
+use mathlib.Core.List.{List, map}
+use Prim.Native.Nat.{ℕ, _+_, _*_, _<_, _≤_}
+use lib.Dec.{eqb}
+use lib.ListN.{length, take, drop}
+use Rattle.words.specs.Lists.{upTo}
+use Rattle.words.specs.Words.{Word}
+use Rattle.meaning.specs.Table.{Table}
+use Rattle.meaning.specs.Trails.{Pair, Link}
+use Rattle.meaning.specs.Answers.{linksCap}
+use Rattle.table.specs.File.{byte, two}
+use Rattle.session.specs.Sessions.{Entry, entry, Session, Sound}
+
+abbrev pub linkStart : ℕ → ℕ
+linkStart i = 2 + 5 * i
+
+abbrev pub lengthStart : ℕ → ℕ
+lengthStart i = 322 + 2 * i
+
+abbrev pub pieceStart : ℕ → ℕ
+pieceStart i = 450 + 512 * i
+
+abbrev pub pieceRoom : ℕ
+pieceRoom = 512
+
+abbrev pub size : ℕ
+size = 33218
+
+abbrev pub countOf : List ℕ → ℕ
+countOf bytes = byte bytes 1
+
+abbrev pub lengthAt : List ℕ → ℕ → ℕ
+lengthAt bytes i = two bytes (lengthStart i)
+
+abbrev pub pair : ℕ → ℕ → Pair
+pair q m = record { state = q; marker = m }
+
+-- level, pair, and the pair below, which a link at level 0 has none of
+abbrev pub linkAt : List ℕ → ℕ → Link
+linkAt bytes i =
+    let k = linkStart i in
+    record {
+      level = byte bytes k;
+      here = pair (byte bytes (k + 1)) (byte bytes (k + 2));
+      below = cond (eqb (byte bytes k) 0) none (some (pair (byte bytes (k + 3)) (byte bytes (k + 4))));
+    }
+
+abbrev pub pieceAt : List ℕ → ℕ → Word
+pieceAt bytes i = take (lengthAt bytes i) (drop (pieceStart i) bytes)
+
+-- the session that the bytes stand for
+abbrev pub entryAt : List ℕ → ℕ → Entry
+entryAt bytes i = entry (linkAt bytes i) (pieceAt bytes i)
+
+abbrev pub sessionOf : List ℕ → Session
+sessionOf bytes = record { depth = byte bytes 0; entries = map (entryAt bytes) (upTo (countOf bytes)) }
+
+-- "Pieces are kept in the order of their links, and places not used hold 0"
+pub record Kept (bytes : List ℕ) : Type 0 where
+  pub whole : length bytes ≡ size
+  pub small : (k : ℕ) → byte bytes k < 256
+  pub count : countOf bytes ≤ linksCap
+  pub below : (i : ℕ) → i < countOf bytes → byte bytes (linkStart i) ≡ 0
+      → (byte bytes (linkStart i + 3) ≡ 0) × (byte bytes (linkStart i + 4) ≡ 0)
+  pub links : (k : ℕ) → linkStart (countOf bytes) ≤ k → k < lengthStart 0 → byte bytes k ≡ 0
+  pub short : (i : ℕ) → i < countOf bytes → lengthAt bytes i ≤ pieceRoom
+  pub lengths : (k : ℕ) → lengthStart (countOf bytes) ≤ k → k < pieceStart 0 → byte bytes k ≡ 0
+  pub pieces : (i : ℕ) → i < countOf bytes → (j : ℕ) → lengthAt bytes i ≤ j → j < pieceRoom
+      → byte bytes (pieceStart i + j) ≡ 0
+  pub rest : (k : ℕ) → pieceStart (countOf bytes) ≤ k → k < size → byte bytes k ≡ 0
+
+-- the bytes are a session that is sound for a table
+pub record SoundBytes (T : Table) (bytes : List ℕ) : Type 0 where
+  pub kept : Kept bytes
+  pub sound : Sound T (sessionOf bytes)
