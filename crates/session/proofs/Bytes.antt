@@ -17,7 +17,7 @@ use Rattle.words.proofs.Lists.{upTo-in, length-upTo}
 use Rattle.meaning.specs.Trails.{Pair, Link}
 use Rattle.table.specs.File.{byte}
 use Rattle.session.specs.Sessions.{Entry, Session}
-use Rattle.session.specs.Bytes.{linkStart, lengthStart, pieceStart, pieceRoom, size, countOf, lengthAt, pair}
+use Rattle.session.specs.Bytes.{linkStart, lengthStart, pieceStart, pieceRoom, size, countOf, lengthAt, belowAt}
 use Rattle.session.specs.Bytes.{linkAt, pieceAt, entryAt, sessionOf, Kept}
 
 -- what is made alike of a list is made alike of each thing in it
@@ -25,7 +25,14 @@ map-one : {A B : Type 0} (f g : A → B) (l : List A) {x : A} → map f l ≡ ma
 map-one f g (y ∷ l) e (List·Memᴰ·head h) = ap f h ∙ head-eq-of-cons-eq e ∙ ap g (sym h)
 map-one f g (y ∷ l) e (List·Memᴰ·tail m) = map-one f g l (tail-eq-of-cons-eq e) m
 
-below-or : (k n : ℕ) → (k < n) ⊎ (n ≤ k)
+pub none-some : {p : Pair} → none ≡ some p → ⊥
+none-some h = subst filled (sym h) tt
+  where
+    filled : Option Pair → Type 0
+    filled none = ⊥
+    filled (some p) = Unit {0}
+
+pub below-or : (k n : ℕ) → (k < n) ⊎ (n ≤ k)
 below-or k n = go (ltb k n) (λ e. ltb-true k n e) (λ e. ltb-false k n e)
   where
     go : (b : Bool) → (b ≡ true → k < n) → (b ≡ false → n ≤ k) → (k < n) ⊎ (n ≤ k)
@@ -76,20 +83,11 @@ module _ (B C : List ℕ) (b : Kept B) (c : Kept C) (e : sessionOf B ≡ session
       go (eqb (byte B (linkStart i)) 0) (eqb (byte C (linkStart i)) 0) (λ t. eqb-true (byte B (linkStart i)) 0 t)
       (λ t. eqb-true (byte C (linkStart i)) 0 t) (ap (λ (l : Link). l .below) (link-same i lt)) l (omega arith)
     where
-      low : List ℕ → Pair
-      low A = pair (byte A (linkStart i + 3)) (byte A (linkStart i + 4))
-
-      filled : Option Pair → Type 0
-      filled none = ⊥
-      filled (some p) = Unit {0}
-
-      none-some : {p : Pair} → none ≡ some p → ⊥
-      none-some h = subst filled (sym h) tt
-
       go : (s t : Bool) → (s ≡ true → byte B (linkStart i) ≡ 0) → (t ≡ true → byte C (linkStart i) ≡ 0)
-          → cond s none (some (low B)) ≡ cond t none (some (low C))
+          → cond s none (some (belowAt B i)) ≡ cond t none (some (belowAt C i))
           → byte B (linkStart i) ≡ byte C (linkStart i) → i < countOf C
-          → (byte B (linkStart i + 3) ≡ byte C (linkStart i + 3)) × (byte B (linkStart i + 4) ≡ byte C (linkStart i + 4))
+          → (byte B (linkStart i + 3) ≡ byte C (linkStart i + 3))
+          × (byte B (linkStart i + 4) ≡ byte C (linkStart i + 4))
       go true true f g h l m =
           let x = b .below i lt (f refl) in
           let y = c .below i m (g refl) in
@@ -97,7 +95,7 @@ module _ (B C : List ℕ) (b : Kept B) (c : Kept C) (e : sessionOf B ≡ session
       go true false f g h l m = absurd (none-some h)
       go false true f g h l m = absurd (none-some (sym h))
       go false false f g h l m =
-          let p = Option·some-injective (low B) (low C) h in
+          let p = Option·some-injective (belowAt B i) (belowAt C i) h in
           (ap (λ (p : Pair). p .state) p, ap (λ (p : Pair). p .marker) p)
 
   -- the five bytes of a link, the two of a length, the places of a piece
@@ -137,7 +135,7 @@ module _ (B C : List ℕ) (b : Kept B) (c : Kept C) (e : sessionOf B ≡ session
           let m = count-byte in
           b .pieces i lt j k le ∙ sym (c .pieces i (omega arith) j (omega arith) le)
 
-  -- of `w` bytes from `s` on for each of `n` things: where they are the same, and the rest is 0, they are the same bytes
+  -- things of `w` bytes from `s` on: where those that are used are the same, and the rest, all is
   part-same : (s w : ℕ) (start : ℕ → ℕ) → 0 < w → ((i : ℕ) → start i ≡ s + w * i)
       → ((i j : ℕ) → i < countOf B → j < w → byte B (start i + j) ≡ byte C (start i + j))
       → (k : ℕ) → s ≤ k → (start (countOf B) ≤ k → byte B k ≡ byte C k) → byte B k ≡ byte C k
@@ -147,7 +145,8 @@ module _ (B C : List ℕ) (b : Kept B) (c : Kept C) (e : sessionOf B ≡ session
       here = omega (arith, div-add-mod (k - s) w, at ((k - s) / w))
 
       go : ((k - s) / w < countOf B) ⊎ (countOf B ≤ (k - s) / w) → byte B k ≡ byte C k
-      go (inl lt) = subst (λ (k : ℕ). byte B k ≡ byte C k) here (used ((k - s) / w) ((k - s) % w) lt (mod-lt (k - s) pos))
+      go (inl lt) =
+          subst (λ (k : ℕ). byte B k ≡ byte C k) here (used ((k - s) / w) ((k - s) % w) lt (mod-lt (k - s) pos))
       go (inr ge) =
           let m = mul-le-mul-left w ge in
           rest (omega (arith, here, at ((k - s) / w), at (countOf B)))

@@ -7,4 +7,6 @@ pub mod Beginning
 pub mod Loads
 pub mod Soundly
 pub mod Bytes
+pub mod Encoded
+pub mod RoundTrip
 mod Worked

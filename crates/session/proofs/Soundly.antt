@@ -49,7 +49,7 @@ has-exact S f e =
     (every-exact (S .entries) (λ y m. e (y .link) (y .piece) m))
 
 -- a link is within the depth, and lowest or on one that is there
-abbrev Rooted : Session → Link → Type 0
+abbrev pub Rooted : Session → Link → Type 0
 Rooted S l =
     (l .level ≤ S .depth)
     × ((l ≡ linkOf (ground (l .here .state)))
@@ -83,7 +83,7 @@ under-links (ground q) t same = List·Memᴰ·head refl
 under-links (over q m s) t same = List·Memᴰ·head refl
 under-links s (over q m t) (more u) = List·Memᴰ·tail (under-links s t u)
 
-lies-rooted : (S : Session) → Lies S → (l : Link) (x : Word) → Has S l x → Rooted S l
+pub lies-rooted : (S : Session) → Lies S → (l : Link) (x : Word) → Has S l x → Rooted S l
 lies-rooted S lies l x h =
     let r = lies l x h in
     let u = links-under l (r .0) (r .3) in

@@ -1,12 +1,12 @@
--- Which byte of a session says what: depth, count, five bytes for each link, two for each piece's length, and 512 places
--- for each piece, one after the other.
+-- Which byte of a session says what: depth, count, five bytes for each link, two for the length of each piece, and 512
+-- places for each piece, one after the other.
 use mathlib.Core.Path.{_≡_}
 use mathlib.Core.Bool.{cond}
-use mathlib.Core.Option.{some, none}
-use mathlib.Core.List.{List, map}
-use Prim.Native.Nat.{ℕ, _+_, _*_, _<_, _≤_}
-use lib.Dec.{eqb}
-use lib.ListN.{length, take, drop}
+use mathlib.Core.Option.{Option, some, none}
+use mathlib.Core.List.{List, [], _∷_, map}
+use Prim.Native.Nat.{ℕ, _+_, _-_, _*_, _/_, _%_, _<_, _≤_}
+use lib.Dec.{eqb, ltb}
+use lib.ListN.{length, getD, take, drop}
 use Rattle.words.specs.Lists.{upTo}
 use Rattle.words.specs.Words.{Word}
 use Rattle.meaning.specs.Table.{Table}
@@ -39,6 +39,9 @@ lengthAt bytes i = two bytes (lengthStart i)
 abbrev pub pair : ℕ → ℕ → Pair
 pair q m = record { state = q; marker = m }
 
+abbrev pub belowAt : List ℕ → ℕ → Pair
+belowAt bytes i = pair (byte bytes (linkStart i + 3)) (byte bytes (linkStart i + 4))
+
 -- level, pair, and the pair below, which a link at level 0 has none of
 abbrev pub linkAt : List ℕ → ℕ → Link
 linkAt bytes i =
@@ -46,7 +49,7 @@ linkAt bytes i =
     record {
       level = byte bytes k;
       here = pair (byte bytes (k + 1)) (byte bytes (k + 2));
-      below = cond (eqb (byte bytes k) 0) none (some (pair (byte bytes (k + 3)) (byte bytes (k + 4))));
+      below = cond (eqb (byte bytes k) 0) none (some (belowAt bytes i));
     }
 
 abbrev pub pieceAt : List ℕ → ℕ → Word
@@ -77,3 +80,34 @@ pub record Kept (bytes : List ℕ) : Type 0 where
 pub record SoundBytes (T : Table) (bytes : List ℕ) : Type 0 where
   pub kept : Kept bytes
   pub sound : Sound T (sessionOf bytes)
+
+-- the bytes of a session: a place that is not used is of no entry, and holds 0
+abbrev pub noEntry : Entry
+noEntry = entry (record { level = 0; here = pair 0 0; below = none }) []
+
+abbrev pub entryOf : Session → ℕ → Entry
+entryOf S i = getD (S .entries) i noEntry
+
+abbrev pub belowBytes : Option Pair → List ℕ
+belowBytes none = 0 ∷ 0 ∷ []
+belowBytes (some p) = p .state ∷ p .marker ∷ []
+
+abbrev pub linkBytes : Link → List ℕ
+linkBytes l = l .level ∷ l .here .state ∷ l .here .marker ∷ belowBytes (l .below)
+
+abbrev pub lengthBytes : Word → List ℕ
+lengthBytes x = length x % 256 ∷ length x / 256 ∷ []
+
+-- of things of `w` bytes that stand one after the other from `s` on, the byte at `k`
+abbrev pub cell : ℕ → ℕ → (ℕ → List ℕ) → ℕ → ℕ
+cell s w things k = getD (things ((k - s) / w)) ((k - s) % w) 0
+
+abbrev pub byteOf : Session → ℕ → ℕ
+byteOf S k =
+    cond (ltb k (linkStart 0)) (getD (S .depth ∷ length (S .entries) ∷ []) k 0)
+    (cond (ltb k (lengthStart 0)) (cell (linkStart 0) 5 (λ i. linkBytes (entryOf S i .link)) k)
+    (cond (ltb k (pieceStart 0)) (cell (lengthStart 0) 2 (λ i. lengthBytes (entryOf S i .piece)) k)
+    (cell (pieceStart 0) pieceRoom (λ i. entryOf S i .piece) k)))
+
+unfoldable pub bytesOf : Session → List ℕ
+bytesOf S = map (byteOf S) (upTo size)
