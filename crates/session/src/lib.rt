@@ -1,1 +1,2 @@
-// Sessions: what they stand for, and which are sound for a table.
+// Sessions: what their bytes stand for, and which are sound for a table.
+pub mod places;
