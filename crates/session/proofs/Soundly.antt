@@ -179,7 +179,7 @@ short-exact S rise apart lies t w h n =
 bytes-exact : (w : Word) → Exact ((b : ℕ) → b among w → b < 256) (inBytes w)
 bytes-exact w = every-exact w (λ b m. ltb-exact b 256)
 
--- "every later call checks it for itself": the test answers exactly
+-- the test says exactly whether a session is sound
 pub soundly-exact : (T : Table) (S : Session) → Exact (Sound T S) (soundly T S)
 soundly-exact T S =
     exact-as (

@@ -57,6 +57,7 @@ abbrev pub Apart : Session → Type 0
 Apart S =
     (l : Link) (x : Word) → Has S l x → l .level < S .depth → AllBegin (λ y. (q : ℕ) × (m : ℕ) × Has S (on q m l) y) → ⊥
 
+-- "links rise strictly by level, then state and marker, then state and marker below"
 abbrev pub RisesByLink : List Entry → Type 0
 RisesByLink E = Rises (λ e. linkKey (e .link)) E
 

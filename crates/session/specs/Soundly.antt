@@ -39,7 +39,7 @@ rooted S l = ltb (l .level) (suc (S .depth)) && (onBottom l || anyOf (λ f. stan
 abbrev pub piecesOn : (Link → Bool) → List Entry → List Word
 piecesOn test E = each (λ e. only (test (e .link)) (e .piece)) E
 
--- all words of a list begin with one byte; the words of no list do
+-- all words of a list begin with one byte, as those of an empty list do
 abbrev pub startsWith : ℕ → Word → Bool
 startsWith b [] = false
 startsWith b (c ∷ w) = eqb b c
