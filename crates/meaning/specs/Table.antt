@@ -6,7 +6,7 @@ use Prim.Native.Nat.{ℕ, _<_, _≤_}
 use lib.Dec.{eqb}
 use lib.ListN.{length}
 use Rattle.words.specs.Lists.{_among_}
-use Rattle.words.specs.Words.{Word}
+use Rattle.words.specs.Words.{Word, Bytes}
 use Rattle.words.specs.Order.{Rises}
 
 -- "Each symbol 0 to 255 has a class: 0 unused, 1 call, 2 return, 3 internal"
@@ -74,7 +74,7 @@ pub record GoodRow (L : Limits) (T : Table) (r : Row) : Type 0 where
   pub from : r .from < T .states
   pub to : r .to < T .states
   pub marker : MarkFits (T .class (r .symbol)) (T .markers) (r .marker)
-  pub bytes : (b : ℕ) → b among r .word → b < 256
+  pub bytes : Bytes (r .word)
   pub short : length (r .word) ≤ L .word
 
 -- the rules of "The rule file", of the table that a file stands for

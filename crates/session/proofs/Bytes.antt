@@ -6,14 +6,14 @@ use mathlib.Core.Option.{Option, some, none, Option·some-injective}
 use mathlib.Core.List.{List, _∷_, map, List·Memᴰ·head, List·Memᴰ·tail, head-eq-of-cons-eq, tail-eq-of-cons-eq}
 use Prim.Native.Nat.{ℕ, zero, suc, _+_, _*_, _-_, _/_, _%_, _<_, _≤_}
 use native.Mathlib.Omega.{arith}
-use lib.Dec.{eqb, ltb}
-use borrow.Author.Tests.{eqb-true, ltb-true, ltb-false}
+use lib.Dec.{eqb}
+use borrow.Author.Tests.{eqb-true}
 use lib.ListN.{length, getD, drop, length-map, length-drop}
 use native.Mathlib.Nat.{div-add-mod, mod-lt, mul-le-mul-left}
 use lib.Seq.{ext-getD, getD-take, getD-drop, length-take-le}
 use Rattle.words.specs.Lists.{_among_, upTo}
 use Rattle.words.specs.Words.{Word}
-use Rattle.words.proofs.Lists.{upTo-in, length-upTo}
+use Rattle.words.proofs.Lists.{upTo-in, length-upTo, below-or, getD-byte}
 use Rattle.meaning.specs.Trails.{Pair, Link}
 use Rattle.table.specs.File.{byte}
 use Rattle.session.specs.Sessions.{Entry, Session}
@@ -31,13 +31,6 @@ none-some h = subst filled (sym h) tt
     filled : Option Pair → Type 0
     filled none = ⊥
     filled (some p) = Unit {0}
-
-pub below-or : (k n : ℕ) → (k < n) ⊎ (n ≤ k)
-below-or k n = go (ltb k n) (λ e. ltb-true k n e) (λ e. ltb-false k n e)
-  where
-    go : (b : Bool) → (b ≡ true → k < n) → (b ≡ false → n ≤ k) → (k < n) ⊎ (n ≤ k)
-    go true f g = inl (f refl)
-    go false f g = inr (g refl)
 
 -- a piece is as long as its length says
 long : (B : List ℕ) → Kept B → (i : ℕ) → i < countOf B → length (pieceAt B i) ≡ lengthAt B i
@@ -114,10 +107,10 @@ module _ (B C : List ℕ) (b : Kept B) (c : Kept C) (e : sessionOf B ≡ session
   length-byte i zero lt le =
       let n = length-same i lt in
       let z : lengthStart i + 0 ≡ lengthStart i = omega arith in
-      rw z (omega (arith, b .small (lengthStart i), c .small (lengthStart i)))
+      rw z (omega (arith, getD-byte B (b .small) (lengthStart i), getD-byte C (c .small) (lengthStart i)))
   length-byte i (suc zero) lt le =
       let n = length-same i lt in
-      omega (arith, b .small (lengthStart i), c .small (lengthStart i))
+      omega (arith, getD-byte B (b .small) (lengthStart i), getD-byte C (c .small) (lengthStart i))
   length-byte i (suc (suc j)) lt le = absurd (omega arith)
 
   in-piece : (A : List ℕ) (i j : ℕ) → j < lengthAt A i → getD (pieceAt A i) j 0 ≡ byte A (pieceStart i + j)

@@ -3,7 +3,7 @@ use mathlib.Core.Path.{_≡_, refl, sym, _∙_, ap}
 use mathlib.Core.Logic.{_⊎_, inl, inr, _↔_}
 use mathlib.Core.Bool.{cond}
 use mathlib.Core.Option.{Option, some, none}
-use mathlib.Core.List.{List, [], _∷_, _++_, map, map-append, List·Memᴰ·head, List·Memᴰ·tail, List·Memᴰ·cases-cons}
+use mathlib.Core.List.{List, [], _∷_, _++_, map, map-append, Memᴰ·of-map, List·Memᴰ·cases-cons}
 use Prim.Native.Nat.{ℕ, zero, suc, _+_, _*_, _-_, _/_, _%_, _<_, _≤_}
 use native.Mathlib.Omega.{arith}
 use native.Mathlib.Nat.{mul-comm}
@@ -13,8 +13,8 @@ use borrow.Author.Tests.{lt-ltb, le-ltb, eq-eqb, ne-eqb}
 use lib.ListN.{length, replicate, getD, drop, length-map, length-drop, List·getD-append, List·getD-eq-default}
 use lib.Seq.{ext-getD, getD-take, getD-drop, length-take-le, getD-at}
 use Rattle.words.specs.Lists.{_among_, upTo}
-use Rattle.words.specs.Words.{Word}
-use Rattle.words.proofs.Lists.{length-upTo}
+use Rattle.words.specs.Words.{Word, Bytes}
+use Rattle.words.proofs.Lists.{length-upTo, below-or, getD-among, getD-byte}
 use Rattle.meaning.specs.Trails.{Pair}
 use Rattle.meaning.specs.Answers.{linksCap}
 use Rattle.table.specs.File.{byte}
@@ -22,7 +22,7 @@ use Rattle.session.specs.Sessions.{Entry, Session}
 use Rattle.session.specs.Bytes.{linkStart, lengthStart, pieceStart, pieceRoom, size, countOf, lengthAt, linkAt}
 use Rattle.session.specs.Bytes.{pieceAt, entryAt, sessionOf, Kept, noEntry, entryOf, belowAt, belowBytes}
 use Rattle.session.specs.Bytes.{linkBytes, lengthBytes, cell, byteOf, bytesOf}
-use Rattle.session.proofs.Bytes.{below-or, none-some}
+use Rattle.session.proofs.Bytes.{none-some}
 
 getD-map-upTo : {A : Type 0} (f : ℕ → A) (n k : ℕ) (d : A) → k < n → getD (map f (upTo n)) k d ≡ f k
 getD-map-upTo f zero k d lt = absurd (omega arith)
@@ -46,51 +46,39 @@ byte-of : (S : Session) (k : ℕ) → k < size → byte (bytesOf S) k ≡ byteOf
 unfolding bytesOf
 byte-of S k lt = getD-map-upTo (byteOf S) size k 0 lt
 
+small-all : (S : Session) → ((k : ℕ) → byteOf S k < 256) → Bytes (bytesOf S)
+unfolding bytesOf
+small-all S h b m = let x = Memᴰ·of-map (byteOf S) (upTo size) m in rw (← x .2) (h (x .0))
+
 whole-of : (S : Session) → length (bytesOf S) ≡ size
 unfolding bytesOf
 whole-of S = length-map (upTo size) (byteOf S) ∙ length-upTo size
-
-abbrev pub Small : List ℕ → Type 0
-Small l = (n : ℕ) → n among l → n < 256
 
 -- a session whose numbers are bytes and whose pieces have room
 pub record Fits (S : Session) : Type 0 where
   pub depth : S .depth < 256
   pub count : length (S .entries) ≤ linksCap
-  pub bytes : (e : Entry) → e among S .entries → Small (linkBytes (e .link))
+  pub bytes : (e : Entry) → e among S .entries → Bytes (linkBytes (e .link))
   pub below : (e : Entry) → e among S .entries → (e .link .level ≡ 0) ↔ (e .link .below ≡ none)
   pub short : (e : Entry) → e among S .entries → length (e .piece) ≤ pieceRoom
-  pub piece : (e : Entry) → e among S .entries → Small (e .piece)
+  pub piece : (e : Entry) → e among S .entries → Bytes (e .piece)
 
-getD-in : {A : Type 0} (l : List A) (i : ℕ) (d : A) → i < length l → getD l i d among l
-getD-in [] i d lt = absurd (omega arith)
-getD-in (x ∷ l) zero d lt = List·Memᴰ·head refl
-getD-in (x ∷ l) (suc i) d lt = List·Memᴰ·tail (getD-in l i d (omega arith))
-
--- what holds of all numbers of a list and of 0 holds of the number at any place
-getD-small : (l : List ℕ) (i : ℕ) → Small l → getD l i 0 < 256
-getD-small l i h = go (below-or i (length l))
-  where
-    go : (i < length l) ⊎ (length l ≤ i) → getD l i 0 < 256
-    go (inl lt) = h (getD l i 0) (getD-in l i 0 lt)
-    go (inr le) = rw (List·getD-eq-default l 0 le) (omega arith)
-
-pub small-nil : Small []
+pub small-nil : Bytes []
 small-nil n m = elim m [ ]
 
-pub small-cons : {x : ℕ} {l : List ℕ} → x < 256 → Small l → Small (x ∷ l)
+pub small-cons : {x : ℕ} {l : List ℕ} → x < 256 → Bytes l → Bytes (x ∷ l)
 small-cons {x} {l} lt h n m = go (List·Memᴰ·cases-cons m)
   where
     go : (n ≡ x) ⊎ (n among l) → n < 256
     go (inl e) = rw e lt
     go (inr k) = h n k
 
-pub small-zeros : (n : ℕ) → Small (replicate n 0)
+pub small-zeros : (n : ℕ) → Bytes (replicate n 0)
 small-zeros zero = small-nil
 small-zeros (suc n) = small-cons (omega arith) (small-zeros n)
 
-cell-small : (s w : ℕ) (things : ℕ → List ℕ) (k : ℕ) → ((i : ℕ) → Small (things i)) → cell s w things k < 256
-cell-small s w things k h = getD-small (things ((k - s) / w)) ((k - s) % w) (h ((k - s) / w))
+cell-small : (s w : ℕ) (things : ℕ → List ℕ) (k : ℕ) → ((i : ℕ) → Bytes (things i)) → cell s w things k < 256
+cell-small s w things k h = getD-byte (things ((k - s) / w)) (h ((k - s) / w)) ((k - s) % w)
 
 getD-zeros : (n i : ℕ) → _≡_ {A = ℕ} (getD (replicate n 0) i 0) 0
 getD-zeros zero i = refl
@@ -132,7 +120,7 @@ module _ (S : Session) (ok : Fits S) where
       ∙ rw (a, b, c) (cell-at 450 512 (λ i. entryOf S i .piece) i j le)
 
   there : (i : ℕ) → i < length (S .entries) → entryOf S i among S .entries
-  there i lt = getD-in (S .entries) i noEntry lt
+  there i lt = getD-among (S .entries) i noEntry lt
 
   -- what was written is read
 
@@ -219,22 +207,22 @@ module _ (S : Session) (ok : Fits S) where
   small-of : (k : ℕ) → byteOf S k < 256
   small-of k = go (below-or k 2) (below-or k 322) (below-or k 450)
     where
-      links-small : (i : ℕ) → Small (linkBytes (entryOf S i .link))
-      links-small = entry-all (λ e. Small (linkBytes (e .link))) (ok .bytes) (small-zeros 5)
+      links-small : (i : ℕ) → Bytes (linkBytes (entryOf S i .link))
+      links-small = entry-all (λ e. Bytes (linkBytes (e .link))) (ok .bytes) (small-zeros 5)
 
-      two-small : (x : Word) → length x ≤ pieceRoom → Small (lengthBytes x)
+      two-small : (x : Word) → length x ≤ pieceRoom → Bytes (lengthBytes x)
       two-small x le = small-cons (omega arith) (small-cons (omega arith) small-nil)
 
-      lengths-small : (i : ℕ) → Small (lengthBytes (entryOf S i .piece))
+      lengths-small : (i : ℕ) → Bytes (lengthBytes (entryOf S i .piece))
       lengths-small =
-          entry-all (λ e. Small (lengthBytes (e .piece))) (λ e m. two-small (e .piece) (ok .short e m))
+          entry-all (λ e. Bytes (lengthBytes (e .piece))) (λ e m. two-small (e .piece) (ok .short e m))
           (two-small [] (omega arith))
 
       go : (k < 2) ⊎ (2 ≤ k) → (k < 322) ⊎ (322 ≤ k) → (k < 450) ⊎ (450 ≤ k) → byteOf S k < 256
       go (inl a) b c =
           let n : length (S .entries) < 256 = omega (arith, ok .count) in
           rw (lt-ltb k 2 a)
-          (getD-small (S .depth ∷ length (S .entries) ∷ []) k (small-cons (ok .depth) (small-cons n small-nil)))
+          (getD-byte (S .depth ∷ length (S .entries) ∷ []) (small-cons (ok .depth) (small-cons n small-nil)) k)
       go (inr a) (inl b) c =
           rw (le-ltb k 2 a, lt-ltb k 322 b) (cell-small 2 5 (λ i. linkBytes (entryOf S i .link)) k links-small)
       go (inr a) (inr b) (inl c) =
@@ -243,7 +231,7 @@ module _ (S : Session) (ok : Fits S) where
       go (inr a) (inr b) (inr c) =
           rw (le-ltb k 2 a, le-ltb k 322 b, le-ltb k 450 c)
           (cell-small 450 512 (λ i. entryOf S i .piece) k
-          (entry-all (λ e. Small (e .piece)) (ok .piece) small-nil))
+          (entry-all (λ e. Bytes (e .piece)) (ok .piece) small-nil))
 
   nothing : (i : ℕ) → length (S .entries) ≤ i → entryOf S i ≡ noEntry
   nothing i le = List·getD-eq-default (S .entries) noEntry le
@@ -252,7 +240,7 @@ module _ (S : Session) (ok : Fits S) where
   kept-of =
       record {
         whole = whole-of S;
-        small = λ k. small k (below-or k size);
+        small = small-all S small-of;
         count = omega (arith, count-of, ok .count);
         below = λ i lt h. unfilled i (omega (arith, count-of)) h;
         links = λ k le lt. unused-link k (omega (arith, count-of)) lt;
@@ -262,10 +250,6 @@ module _ (S : Session) (ok : Fits S) where
         rest = λ k le lt. unused-piece k (omega (arith, count-of)) lt;
       }
     where
-      small : (k : ℕ) → (k < size) ⊎ (size ≤ k) → byte B k < 256
-      small k (inl lt) = rw (byte-of S k lt) (small-of k)
-      small k (inr le) = rw (List·getD-eq-default B 0 {n = k} (omega (arith, whole-of S))) (omega arith)
-
       unfilled : (i : ℕ) → i < length (S .entries) → byte B (linkStart i) ≡ 0
           → (byte B (linkStart i + 3) ≡ 0) × (byte B (linkStart i + 4) ≡ 0)
       unfilled i lt h =

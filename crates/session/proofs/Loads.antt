@@ -4,47 +4,45 @@ use mathlib.Core.Logic.{_⊎_, inl, inr}
 use mathlib.Core.Bool.{Bool, true, false, cond, false≢true}
 use mathlib.Core.List.{List, [], _∷_, _++_, map, List·Memᴰ·head, List·Memᴰ·tail, Memᴰ·map, Memᴰ·of-map}
 use mathlib.Core.List.{List·Memᴰ·cases-cons}
-use Prim.Native.Nat.{ℕ, zero, suc, _+_, _<_, _≤_}
+use Prim.Native.Nat.{ℕ, zero, suc, _+_, _<_, _≤_, max}
 use native.Mathlib.Omega.{arith}
-use lib.Dec.{ltb}
+use native.Mathlib.Nat.{le-max-left, le-max-right, max-eq-left, max-eq-right}
 use lib.ListN.{length, length-append}
-use borrow.Author.Tests.{ltb-true, ltb-false}
 use Rattle.words.specs.Lists.{_among_}
 use Rattle.words.specs.Words.{Word}
 use Rattle.words.specs.Order.{Less}
-use Rattle.words.proofs.Lists.{map-same}
+use Rattle.words.proofs.Lists.{map-same, below-or}
 use Rattle.meaning.specs.Trails.{Trail, ground, over, height, Link, on, linkOf, linkKey}
 use Rattle.session.specs.Sessions.{Apart, RisesByLink, Entry, entry, Session, Has, Spells, Waits, onBottom}
 use Rattle.session.specs.Sessions.{standsOn}
-use Rattle.session.specs.Soundly.{Load, larger, most, loads, longest}
+use Rattle.session.specs.Soundly.{Load, most, loads, longest}
 use Rattle.session.proofs.Tests.{bottom-exact, stands-exact, as-has}
 use Rattle.session.proofs.Spells.{Above, no-more, up, above-spells, from-bottom, level-linkOf, has-top, GoesOn}
 use Rattle.session.proofs.Spells.{Stood, stood}
 
 -- the most of a list of loads
 
-larger-most : (m n : ℕ) → (m ≤ larger m n) × (n ≤ larger m n) × ((larger m n ≡ m) ⊎ (larger m n ≡ n))
-larger-most m n = go (ltb m n) (λ e. ltb-true m n e) (λ e. ltb-false m n e)
+max-is : (m n : ℕ) → (max m n ≡ m) ⊎ (max m n ≡ n)
+max-is m n = go (below-or m n)
   where
-    go : (b : Bool) → (b ≡ true → m < n) → (b ≡ false → n ≤ m)
-        → (m ≤ cond b n m) × (n ≤ cond b n m) × ((cond b n m ≡ m) ⊎ (cond b n m ≡ n))
-    go true f g = let l = f refl in (omega arith, omega arith, inr refl)
-    go false f g = let l = g refl in (omega arith, omega arith, inl refl)
+    go : (m < n) ⊎ (n ≤ m) → (max m n ≡ m) ⊎ (max m n ≡ n)
+    go (inl lt) = inr (max-eq-right (omega arith))
+    go (inr le) = inl (max-eq-left le)
 
 module _ (test : Link → Bool) where
   abbrev At : Load → List Load → Bool → ℕ
-  At h H b = cond b (larger (h .bytes) (most test H)) (most test H)
+  At h H b = cond b (max (h .bytes) (most test H)) (most test H)
 
   -- none that passes is more
   most-each : (H : List Load) (h : Load) → h among H → test (h .link) ≡ true → h .bytes ≤ most test H
   most-each (k ∷ H) h (List·Memᴰ·head e) t =
       let s : test (k .link) ≡ true = ap (λ (h : Load). test (h .link)) (sym e) ∙ t in
       let f : h .bytes ≡ k .bytes = ap (λ (h : Load). h .bytes) e in
-      rw s (omega (arith, larger-most (k .bytes) (most test H) .0))
+      rw s (omega (arith, le-max-left (k .bytes) (most test H)))
   most-each (k ∷ H) h (List·Memᴰ·tail m) t = go (test (k .link)) (most-each H h m t)
     where
       go : (b : Bool) → h .bytes ≤ most test H → h .bytes ≤ At k H b
-      go true l = omega (arith, larger-most (k .bytes) (most test H) .1)
+      go true l = omega (arith, le-max-right (k .bytes) (most test H))
       go false l = l
 
   -- one that passes is as much, if any passes
@@ -79,8 +77,8 @@ module _ (test : Link → Bool) where
       go : (b : Bool) → test (k .link) ≡ b → Most H (most test H) ⊎ ((h : Load) → h among H → test (h .link) ≡ true → ⊥)
           → Most (k ∷ H) (At k H b) ⊎ ((h : Load) → h among k ∷ H → test (h .link) ≡ true → ⊥)
       go true t r =
-          let o = larger-most (k .bytes) (most test H) in
-          inl (pick t (larger (k .bytes) (most test H)) (o .2) (o .0) r)
+          let n = max (k .bytes) (most test H) in
+          inl (pick t n (max-is (k .bytes) (most test H)) (le-max-left (k .bytes) (most test H)) r)
       go false t (inl r) = inl (down r)
       go false t (inr f) = inr (λ h m. none h (List·Memᴰ·cases-cons m))
         where

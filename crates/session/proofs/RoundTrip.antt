@@ -7,7 +7,7 @@ use Prim.Native.Nat.{ℕ, _<_, _≤_}
 use native.Mathlib.Omega.{arith}
 use lib.ListN.{length, length-append}
 use Rattle.words.specs.Lists.{_among_}
-use Rattle.words.specs.Words.{Word}
+use Rattle.words.specs.Words.{Word, Bytes}
 use Rattle.meaning.specs.Table.{Table, Good, edition1}
 use Rattle.meaning.specs.Trails.{Trail, ground, over, Pair, Link, on, linkOf}
 use Rattle.session.specs.Sessions.{Entry, Session, Has, Spells, Ranges, Sound, trails}
@@ -18,7 +18,7 @@ use Rattle.session.proofs.Spells.{links-under, spells-under, has-one}
 use Rattle.session.proofs.Tests.{as-has}
 use Rattle.session.proofs.Listed.{trails-same}
 use Rattle.meaning.specs.Living.{Place}
-use Rattle.session.proofs.Encoded.{Small, Fits, small-nil, small-cons, small-zeros, session-back, kept-of}
+use Rattle.session.proofs.Encoded.{Fits, small-nil, small-cons, small-zeros, session-back, kept-of}
 
 -- a session that is sound for a good table fits
 module _ (T : Table) (good : Good edition1 T) (S : Session) (ok : Sound T S) where
@@ -63,7 +63,7 @@ module _ (T : Table) (good : Good edition1 T) (S : Session) (ok : Sound T S) whe
           let b = ap (λ (l : Link). l .below) (f .2) in
           (λ z. absurd (omega arith), λ z. absurd (none-some (sym z ∙ b)))
 
-  link-small : (e : Entry) → e among S .entries → Small (linkBytes (e .link))
+  link-small : (e : Entry) → e among S .entries → Bytes (linkBytes (e .link))
   link-small e m =
       let h = here-small e m in
       let level : e .link .level < 256 = omega (arith, root e m .0, ok .depth, good .depthCap .1) in
@@ -72,12 +72,12 @@ module _ (T : Table) (good : Good edition1 T) (S : Session) (ok : Sound T S) whe
       go : (e .link ≡ linkOf (ground (e .link .here .state)))
           ⊎ ((f : Entry) × (f among S .entries)
           × (e .link ≡ on (e .link .here .state) (e .link .here .marker) (f .link)))
-          → Small (belowBytes (e .link .below))
+          → Bytes (belowBytes (e .link .below))
       go (inl h) =
-          subst (λ (o : Option Pair). Small (belowBytes o)) (sym (ap (λ (l : Link). l .below) h)) (small-zeros 2)
+          subst (λ (o : Option Pair). Bytes (belowBytes o)) (sym (ap (λ (l : Link). l .below) h)) (small-zeros 2)
       go (inr f) =
           let k = here-small (f .0) (f .1) in
-          subst (λ (o : Option Pair). Small (belowBytes o)) (sym (ap (λ (l : Link). l .below) (f .2)))
+          subst (λ (o : Option Pair). Bytes (belowBytes o)) (sym (ap (λ (l : Link). l .below) (f .2)))
           (small-cons (k .0) (small-cons (k .1) small-nil))
 
   sound-fits : Fits S

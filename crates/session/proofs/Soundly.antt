@@ -1,18 +1,18 @@
 -- The test of soundness passes exactly for sound sessions. Assumes nothing.
 use mathlib.Core.Path.{_≡_, refl, sym, _∙_, ap}
 use mathlib.Core.Logic.{_⊎_, inl, inr}
-use mathlib.Core.Bool.{Bool, true, false, not}
+use mathlib.Core.Bool.{Bool, not}
 use mathlib.Core.List.{[], _∷_, _++_, List·Memᴰ·head, List·Memᴰ·tail, Memᴰ·cast}
 use Prim.Native.Nat.{ℕ, zero, suc, _-_, _<_, _≤_}
+use native.Mathlib.Nat.{eq-or-lt-of-le}
 use native.Mathlib.Omega.{arith}
-use lib.Dec.{eqb, ltb}
+use lib.Dec.{leb}
 use lib.ListN.{length}
-use borrow.Author.Tests.{eqb-true, eqb-false}
 use Rattle.words.specs.Lists.{_among_, every, Exact}
-use Rattle.words.specs.Words.{Word}
+use Rattle.words.specs.Words.{Word, Bytes}
 use Rattle.words.proofs.Common.{begins, begins-trans}
 use Rattle.words.proofs.Exact.{exact-as, and-exact, then-exact, or-exact, if-exact, every-exact, any-exact, eqb-exact}
-use Rattle.words.proofs.Exact.{ltb-exact}
+use Rattle.words.proofs.Exact.{ltb-exact, leb-exact}
 use Rattle.meaning.specs.Table.{Table}
 use Rattle.meaning.specs.Trails.{Trail, ground, over, height, Link, on, linkOf, links}
 use Rattle.meaning.specs.Answers.{linksCap}
@@ -26,9 +26,6 @@ use Rattle.session.proofs.Spells.{above-under, above-spells, from-botto
 use Rattle.session.proofs.Spells.{some-waits, spells-under, goes-on, spells-longest}
 use Rattle.session.proofs.Loads.{waits-longest, longest-waits}
 
-most-exact : (m n : ℕ) → Exact (m ≤ n) (ltb m (suc n))
-most-exact m n = exact-as (λ h. omega arith, λ h. omega arith) (ltb-exact m (suc n))
-
 ranges-exact : (T : Table) (l : Link) → Exact (Ranges T l) (inRanges T l)
 ranges-exact T l =
     let m = eqb-exact (l .here .marker) 0 in
@@ -38,7 +35,7 @@ ranges-exact T l =
       λ r. (r .state, (r .marker, (r .zero .0, r .zero .1))),
     )
     (and-exact (ltb-exact (l .here .state) (T .states))
-    (and-exact (most-exact (l .here .marker) (T .markers)) (and-exact (if-exact m n) (if-exact n m))))
+    (and-exact (leb-exact (l .here .marker) (T .markers)) (and-exact (if-exact m n) (if-exact n m))))
 
 -- for all links with their pieces
 has-exact : (S : Session) {P : Link → Word → Type 0} (f : Entry → Bool)
@@ -57,13 +54,13 @@ Rooted S l =
 
 rooted-exact : (S : Session) (l : Link) → Exact (Rooted S l) (rooted S l)
 rooted-exact S l =
-    and-exact (most-exact (l .level) (S .depth))
+    and-exact (leb-exact (l .level) (S .depth))
     (or-exact (bottom-exact l) (any-exact (S .entries) (λ f m. stands-exact (f .link) l)))
 
 carries-exact : (S : Session) (l : Link) → l .level ≤ S .depth
     → Exact (l .level < S .depth → AllBegin (λ y. (q : ℕ) × (m : ℕ) × Has S (on q m l) y) → ⊥) (carries S l)
 carries-exact S l le =
-    exact-as (to, fro (eqb (l .level) (S .depth)) (eqb-true (l .level) (S .depth)) (eqb-false (l .level) (S .depth)))
+    exact-as (to, λ h. fro h (eq-or-lt-of-le le))
     (or-exact (eqb-exact (l .level) (S .depth)) (apart-exact (piecesOn (standsOn l) (S .entries)) (on-pieces S l)))
   where
     All : Type 0
@@ -73,10 +70,10 @@ carries-exact S l le =
     to (inl e) lt a = absurd (omega arith)
     to (inr f) lt a = f a
 
-    fro : (b : Bool) → (b ≡ true → l .level ≡ S .depth) → (b ≡ false → l .level ≡ S .depth → ⊥)
-        → (l .level < S .depth → All → ⊥) → (l .level ≡ S .depth) ⊎ (All → ⊥)
-    fro true f g h = inl (f refl)
-    fro false f g h = inr (h (omega (arith, g refl)))
+    fro : (l .level < S .depth → All → ⊥) → (l .level ≡ S .depth) ⊎ (l .level < S .depth)
+        → (l .level ≡ S .depth) ⊎ (All → ⊥)
+    fro h (inl e) = inl e
+    fro h (inr lt) = inr (h lt)
 
 under-links : (s t : Trail) → Under s t → linkOf s among links t
 under-links (ground q) t same = List·Memᴰ·head refl
@@ -166,7 +163,7 @@ bottom-exact-all S apart =
 -- "no trail's waiting output is longer than the cap"
 short-exact : (S : Session) → RisesByLink (S .entries) → Apart S → Lies S
     → (t : Trail) (w : Word) → Waits S t w → (n : ℕ)
-    → Exact ((t : Trail) (w : Word) → Waits S t w → length w ≤ n) (ltb (longest (S .entries)) (suc n))
+    → Exact ((t : Trail) (w : Word) → Waits S t w → length w ≤ n) (leb (longest (S .entries)) n)
 short-exact S rise apart lies t w h n =
     exact-as (
       λ le t w h. omega (arith, waits-longest S rise t w (h .spells)),
@@ -174,9 +171,9 @@ short-exact S rise apart lies t w h n =
           let r = longest-waits S rise apart (λ l x h. lies-rooted S lies l x h .0) t w (h .spells) in
           omega (arith, all (r .0) (r .1) (r .2), r .3),
     )
-    (most-exact (longest (S .entries)) n)
+    (leb-exact (longest (S .entries)) n)
 
-bytes-exact : (w : Word) → Exact ((b : ℕ) → b among w → b < 256) (inBytes w)
+bytes-exact : (w : Word) → Exact (Bytes w) (inBytes w)
 bytes-exact w = every-exact w (λ b m. ltb-exact b 256)
 
 -- the test says exactly whether a session is sound
@@ -209,11 +206,11 @@ soundly-exact T S =
         ),
       ),
     )
-    (then-exact (most-exact (S .depth) (T .depthCap))
+    (then-exact (leb-exact (S .depth) (T .depthCap))
     (λ d.
-    then-exact (some-exact (length (S .entries)))
+    then-exact (leb-exact 1 (length (S .entries)))
     (λ some.
-    then-exact (most-exact (length (S .entries)) linksCap)
+    then-exact (leb-exact (length (S .entries)) linksCap)
     (λ few.
     then-exact (has-exact S (λ e. inRanges T (e .link)) (λ l x h. ranges-exact T l))
     (λ ranges.
@@ -228,6 +225,3 @@ soundly-exact T S =
     and-exact (bottom-exact-all S apart)
     (and-exact (short-exact S rise apart lies (w .0) (w .1) (w .2) (T .waitingCap))
     (has-exact S (λ e. inBytes (e .piece)) (λ l x h. bytes-exact x)))))))))))
-  where
-    some-exact : (n : ℕ) → Exact (1 ≤ n) (ltb 0 n)
-    some-exact n = exact-as (λ h. omega arith, λ h. omega arith) (ltb-exact 0 n)

@@ -8,7 +8,7 @@ use Prim.Native.Nat.{ℕ, _+_, _-_, _*_, _/_, _%_, _<_, _≤_}
 use lib.Dec.{eqb, ltb}
 use lib.ListN.{length, getD, take, drop}
 use Rattle.words.specs.Lists.{upTo}
-use Rattle.words.specs.Words.{Word}
+use Rattle.words.specs.Words.{Word, Bytes}
 use Rattle.meaning.specs.Table.{Table}
 use Rattle.meaning.specs.Trails.{Pair, Link}
 use Rattle.meaning.specs.Answers.{linksCap}
@@ -65,7 +65,7 @@ sessionOf bytes = record { depth = byte bytes 0; entries = map (entryAt bytes) (
 -- "Pieces are kept in the order of their links, and places not used hold 0"
 pub record Kept (bytes : List ℕ) : Type 0 where
   pub whole : length bytes ≡ size
-  pub small : (k : ℕ) → byte bytes k < 256
+  pub small : Bytes bytes
   pub count : countOf bytes ≤ linksCap
   pub below : (i : ℕ) → i < countOf bytes → byte bytes (linkStart i) ≡ 0
       → (byte bytes (linkStart i + 3) ≡ 0) × (byte bytes (linkStart i + 4) ≡ 0)

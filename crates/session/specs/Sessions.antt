@@ -6,7 +6,7 @@ use mathlib.Core.List.{List, [], _∷_, _++_, map}
 use Prim.Native.Nat.{ℕ, zero, suc, _<_, _≤_}
 use lib.ListN.{length}
 use Rattle.words.specs.Lists.{_among_, each, only, choices}
-use Rattle.words.specs.Words.{Word, Begins}
+use Rattle.words.specs.Words.{Word, Bytes, Begins}
 use Rattle.words.specs.Order.{Rises, sameWord}
 use Rattle.meaning.specs.Table.{Table}
 use Rattle.meaning.specs.Trails.{Trail, ground, over, height, Link, on, linkOf, links, linkKey}
@@ -71,7 +71,7 @@ pub record Sound (T : Table) (S : Session) : Type 0 where
   pub bottom : AllBegin (λ w. (t : Trail) × Waits S t w) → ⊥
   pub rise : RisesByLink (S .entries)
   pub apart : Apart S
-  pub bytes : (l : Link) (x : Word) → Has S l x → (b : ℕ) → b among x → b < 256
+  pub bytes : (l : Link) (x : Word) → Has S l x → Bytes x
 
 -- whether a link has nothing below; whether it stands on the pair of another
 abbrev pub onBottom : Link → Bool

@@ -1,8 +1,8 @@
 -- Soundness as a test: each rule by looking at links and pieces, never at all trails, of which there can be too many.
 use mathlib.Core.Bool.{Bool, true, false, cond, _&&_, _||_, not}
 use mathlib.Core.List.{List, [], _∷_}
-use Prim.Native.Nat.{ℕ, suc, _+_}
-use lib.Dec.{eqb, ltb}
+use Prim.Native.Nat.{ℕ, _+_, max}
+use lib.Dec.{eqb, ltb, leb}
 use lib.ListN.{length}
 use Rattle.words.specs.Lists.{each, only, every, anyOf}
 use Rattle.words.specs.Words.{Word}
@@ -18,7 +18,7 @@ inRanges T l =
     let no-marker = eqb (l .here .marker) 0 in
     let lowest = eqb (l .level) 0 in
     ltb (l .here .state) (T .states)
-    && (ltb (l .here .marker) (suc (T .markers)) && (cond no-marker lowest true && cond lowest no-marker true))
+    && (leb (l .here .marker) (T .markers) && (cond no-marker lowest true && cond lowest no-marker true))
 
 -- each link is below the next
 abbrev pub isLower : Side → Bool
@@ -33,7 +33,7 @@ rising (e ∷ f ∷ E) = isLower (side (linkKey (e .link)) (linkKey (f .link))) 
 
 -- a link is not above the depth, and has nothing below or stands on one that is there
 abbrev pub rooted : Session → Link → Bool
-rooted S l = ltb (l .level) (suc (S .depth)) && (onBottom l || anyOf (λ f. standsOn (f .link) l) (S .entries))
+rooted S l = leb (l .level) (S .depth) && (onBottom l || anyOf (λ f. standsOn (f .link) l) (S .entries))
 
 -- the pieces on the links that pass a test
 abbrev pub piecesOn : (Link → Bool) → List Entry → List Word
@@ -58,12 +58,9 @@ pub record Load : Type 0 where
   pub link : Link
   pub bytes : ℕ
 
-abbrev pub larger : ℕ → ℕ → ℕ
-larger m n = cond (ltb m n) n m
-
 abbrev pub most : (Link → Bool) → List Load → ℕ
 most test [] = 0
-most test (h ∷ H) = cond (test (h .link)) (larger (h .bytes) (most test H)) (most test H)
+most test (h ∷ H) = cond (test (h .link)) (max (h .bytes) (most test H)) (most test H)
 
 abbrev pub loads : List Entry → List Load
 loads [] = []
@@ -79,12 +76,12 @@ inBytes w = every (λ b. ltb b 256) w
 
 abbrev pub soundly : Table → Session → Bool
 soundly T S =
-    ltb (S .depth) (suc (T .depthCap))
-    && (ltb 0 (length (S .entries))
-    && (ltb (length (S .entries)) (suc linksCap)
+    leb (S .depth) (T .depthCap)
+    && (leb 1 (length (S .entries))
+    && (leb (length (S .entries)) linksCap
     && (every (λ e. inRanges T (e .link)) (S .entries)
     && (rising (S .entries)
     && (every (λ e. rooted S (e .link)) (S .entries)
     && (every (λ e. carries S (e .link)) (S .entries)
     && (not (allBegin (piecesOn onBottom (S .entries)))
-    && (ltb (longest (S .entries)) (suc (T .waitingCap)) && every (λ e. inBytes (e .piece)) (S .entries)))))))))
+    && (leb (longest (S .entries)) (T .waitingCap) && every (λ e. inBytes (e .piece)) (S .entries)))))))))

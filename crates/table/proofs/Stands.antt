@@ -7,12 +7,12 @@ use Prim.Native.Nat.{ℕ, zero, suc, _+_, _-_, _^_, _<_, _≤_}
 use native.Mathlib.Nat.{eq-zero-or-pos}
 use native.Mathlib.Numerals.{add-one}
 use native.Mathlib.Omega.{arith}
-use lib.ListN.{length-map, length-take, getD, take, drop}
-use lib.Seq.{getD-drop}
+use lib.ListN.{length-map, length-take, take, drop}
 use borrow.Author.Tests.{le-ltb}
 use Rattle.words.specs.Lists.{_among_, upTo}
+use Rattle.words.specs.Words.{Bytes}
 use Rattle.words.specs.Order.{Less, Rises}
-use Rattle.words.proofs.Lists.{upTo-out, length-upTo}
+use Rattle.words.proofs.Lists.{upTo-out, length-upTo, getD-byte}
 use Rattle.words.proofs.Order.{less-trans, rises-append}
 use Rattle.meaning.specs.Table.{rowKey, Row, GoodSet, GoodRow, Good as GoodTable}
 use Rattle.table.specs.Sets.{members}
@@ -20,23 +20,17 @@ use Rattle.table.specs.File.{byte, two, eight, rowCount, rowStart, words
 use Rattle.table.specs.Good.{Edition, Good, Rows}
 use Rattle.table.proofs.Members.{members-rise, members-below, members-some}
 
--- the file holds bytes
-abbrev pub Bytes : List ℕ → Type 0
-Bytes file = (k : ℕ) → getD file k 0 < 256
-
--- what stands in a part of it is a byte
-byte-among : {b : ℕ} (l : List ℕ) → Bytes l → b among l → b < 256
-byte-among (x ∷ l) h (List·Memᴰ·head e) = let k = h 0 in omega arith
-byte-among (x ∷ l) h (List·Memᴰ·tail m) = byte-among l (λ k. h (suc k)) m
-
-drop-bytes : (l : List ℕ) (n : ℕ) → Bytes l → Bytes (drop n l)
-drop-bytes l n h k = rw getD-drop (h (n + k))
-
+-- what stands in a part of a list stands in it
 take-among : {b : ℕ} (n : ℕ) (l : List ℕ) → b among take n l → b among l
 take-among zero l m = elim m [ ]
 take-among (suc n) [] m = elim m [ ]
 take-among (suc n) (x ∷ l) (List·Memᴰ·head e) = List·Memᴰ·head e
 take-among (suc n) (x ∷ l) (List·Memᴰ·tail m) = List·Memᴰ·tail (take-among n l m)
+
+drop-among : {b : ℕ} (n : ℕ) (l : List ℕ) → b among drop n l → b among l
+drop-among zero l m = m
+drop-among (suc n) [] m = m
+drop-among (suc n) (x ∷ l) m = List·Memᴰ·tail (drop-among n l m)
 
 -- rows each above the one before rise
 module _ (file : List ℕ) (rows : Rows file) where
@@ -68,7 +62,8 @@ module _ (file : List ℕ) (rows : Rows file) where
 
 eight-below : (file : List ℕ) → Bytes file → (i : ℕ) → eight file i < 2 ^ 64
 unfolding eight
-eight-below file h i =
+eight-below file bytes i =
+    let h = getD-byte file bytes in
     omega (arith, h i, h (i + 1), h (i + 2), h (i + 2 + 1), h (i + 4), h (i + 4 + 1), h (i + 6), h (i + 6 + 1))
 
 good-set : (n s : ℕ) → s < 2 ^ n → GoodSet n (members s)
@@ -85,10 +80,9 @@ module _ {E : Edition} (wide : 255 ≤ E .limits .word) (file : List ℕ) (bytes
         to = f .to;
         marker = f .marker;
         bytes = λ b m.
-            byte-among (drop (wordsStart file + two file (rowStart i + 4)) file)
-            (drop-bytes file (wordsStart file + two file (rowStart i + 4)) bytes)
-            (take-among (byte file (rowStart i + 6)) (drop (wordsStart file + two file (rowStart i + 4)) file) m);
-        short = simp length-take (let b = bytes (rowStart i + 6) in omega arith);
+            let start = wordsStart file + two file (rowStart i + 4) in
+            bytes b (drop-among start file (take-among (byte file (rowStart i + 6)) (drop start file) m));
+        short = simp length-take (let b = getD-byte file bytes (rowStart i + 6) in omega arith);
       }
 
   pub good-table : GoodTable (E .limits) (tableOf file)

@@ -1,10 +1,11 @@
 -- What `check` told, and that it, `class_of` and `first_row` can tell one thing only. Assumes nothing.
-use mathlib.Core.Path.{_≡_, refl, sym, _∙_, ap}
+use mathlib.Core.Path.{_≡_, refl}
 use mathlib.Core.Logic.{_⊎_, inl, inr}
 use mathlib.Core.List.{List}
 use Prim.Native.Nat.{ℕ, _-_, _<_}
 use native.Mathlib.Nat.{eq-zero-or-pos}
 use native.Mathlib.Omega.{arith}
+use mathlib.Mathlib.Logic.Function.Defs.{LeftInverse·injective}
 use Rattle.meaning.specs.Table.{Class as Kind, unused, call, return, internal}
 use Rattle.table.specs.Good.{first, Good}
 use Rattle.table.specs.Calls.{Checked, meant, FirstRow}
@@ -30,7 +31,7 @@ checked-unique file BadTable BadTable c d = refl
 
 -- so are two answers of `class_of`,
 pub meant-unique : (r q : Class) → meant r ≡ meant q → r ≡ q
-meant-unique r q e = sym (back-is r) ∙ ap back e ∙ back-is q
+meant-unique r q e = LeftInverse·injective back meant back-is r q e
   where
     back : Kind → Class
     back unused = Unused

@@ -6,6 +6,7 @@ mod read;
 mod rows;
 pub mod sets;
 
+pub use load::load_two;
 pub use read::Class;
 pub use read::class_of;
 pub use read::depth_cap;

@@ -1,5 +1,6 @@
 -- What `compare` finds from an index on, and that its contract allows one answer. Assumes nothing.
-use mathlib.Core.Path.{_≡_, refl, sym, _∙_, ap}
+use mathlib.Core.Path.{_≡_, refl, sym, _∙_}
+use mathlib.Mathlib.Logic.Function.Defs.{LeftInverse·injective}
 use Prim.Native.Nat.{ℕ, _+_, _≤_, _<_}
 use native.Mathlib.Numerals.{add-one}
 use native.Mathlib.Nat.{le-of-lt, le-antisymm, ne-of-lt, ne-of-gt}
@@ -51,7 +52,7 @@ module _ {xs ys : Word} {i : ℕ} (u : Undecided xs ys i) where
 
 -- two answers to one call are the same
 pub compare-unique : (r q : Order) (s : Side) → sideOf r ≡ s → sideOf q ≡ s → r ≡ q
-compare-unique r q s e d = sym (back-is r) ∙ ap back (e ∙ sym d) ∙ back-is q
+compare-unique r q s e d = LeftInverse·injective back sideOf back-is r q (e ∙ sym d)
   where
     back : Side → Order
     back lower = Before

@@ -3,9 +3,9 @@ use mathlib.Core.Path.{_≡_, refl}
 use mathlib.Core.Logic.{_↔_, _⊎_, inl, inr}
 use mathlib.Core.Bool.{Bool, true, false, cond, not, _&&_, _||_, false≢true}
 use mathlib.Core.List.{List, List·Memᴰ·not-nil}
-use Prim.Native.Nat.{ℕ, _<_}
-use lib.Dec.{eqb, ltb}
-use borrow.Author.Tests.{eqb-true, eq-eqb, ltb-true, lt-ltb, not-false}
+use Prim.Native.Nat.{ℕ, _<_, _≤_}
+use lib.Dec.{eqb, ltb, leb}
+use borrow.Author.Tests.{eqb-true, eq-eqb, ltb-true, lt-ltb, leb-true, le-leb, not-false}
 use Rattle.words.specs.Lists.{_among_, Exact, every, anyOf, isEmpty}
 use Rattle.words.specs.Words.{Word}
 use Rattle.words.specs.Order.{sameWord}
@@ -35,6 +35,9 @@ eqb-exact m n = (eq-eqb m n, eqb-true m n)
 
 pub ltb-exact : (m n : ℕ) → Exact (m < n) (ltb m n)
 ltb-exact m n = (lt-ltb m n, ltb-true m n)
+
+pub leb-exact : (m n : ℕ) → Exact (m ≤ n) (leb m n)
+leb-exact m n = (le-leb m n, leb-true m n)
 
 pub same-exact : (v w : Word) → Exact (v ≡ w) (sameWord v w)
 same-exact v w = (same-in, same-out v w)

@@ -5,11 +5,12 @@ use mathlib.Core.Bool.{Bool, true, false, _&&_, _||_, false≢true}
 use mathlib.Core.List.{List, [], _∷_, _++_, map, map-append, append-assoc, List·Memᴰ·head, List·Memᴰ·tail, Memᴰ·cast}
 use mathlib.Core.List.{Memᴰ·of-map, Memᴰ·append-left, Memᴰ·append-right, List·Memᴰ·append-cases}
 use mathlib.Core.List.{List·Memᴰ·eq-of-singleton}
-use lib.ListN.{length, length-append}
-use Prim.Native.Nat.{ℕ, zero, suc, _<_, _-_}
+use lib.ListN.{length, length-append, getD, List·getD-eq-default}
+use Prim.Native.Nat.{ℕ, zero, suc, _<_, _≤_, _-_}
 use native.Mathlib.Nat.{eq-zero-or-pos}
 use native.Mathlib.Omega.{arith}
 use Rattle.words.specs.Lists.{_among_, each, only, every, anyOf, isEmpty, choices, upTo, Distinct}
+use Rattle.words.specs.Words.{Word, Bytes}
 
 -- tests
 
@@ -220,3 +221,24 @@ empty-in (x ∷ l) f = absurd (f x (List·Memᴰ·head refl))
 pub first-of : {A : Type 0} (l : List A) → isEmpty l ≡ false → (x : A) × (x among l)
 first-of [] e = absurd (false≢true (sym e))
 first-of (x ∷ l) e = (x, List·Memᴰ·head refl)
+
+-- what stands at a place of a list is in it
+pub getD-among : {A : Type 0} (l : List A) (i : ℕ) (d : A) → i < length l → getD l i d among l
+getD-among [] i d lt = absurd (omega arith)
+getD-among (x ∷ l) zero d lt = List·Memᴰ·head refl
+getD-among (x ∷ l) (suc i) d lt = List·Memᴰ·tail (getD-among l i d (omega arith))
+
+pub below-or : (k n : ℕ) → (k < n) ⊎ (n ≤ k)
+below-or k n = go (eq-zero-or-pos (n - k))
+  where
+    go : (n - k ≡ 0) ⊎ (0 < n - k) → (k < n) ⊎ (n ≤ k)
+    go (inl e) = inr (omega arith)
+    go (inr p) = inl (omega arith)
+
+-- of a list of bytes, the number at any place is one
+pub getD-byte : (l : Word) → Bytes l → (i : ℕ) → getD l i 0 < 256
+getD-byte l h i = go (below-or i (length l))
+  where
+    go : (i < length l) ⊎ (length l ≤ i) → getD l i 0 < 256
+    go (inl lt) = h (getD l i 0) (getD-among l i 0 lt)
+    go (inr le) = rw (List·getD-eq-default l 0 le) (omega arith)

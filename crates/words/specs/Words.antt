@@ -2,11 +2,16 @@
 use mathlib.Core.Path.{_≡_}
 use mathlib.Core.Bool.{cond}
 use mathlib.Core.List.{List, [], _∷_, _++_}
-use Prim.Native.Nat.{ℕ}
+use Prim.Native.Nat.{ℕ, _<_}
 use lib.Dec.{eqb}
+use Rattle.words.specs.Lists.{_among_}
 
 abbrev pub Word : Type 0
 Word = List ℕ
+
+-- all its numbers are bytes
+abbrev pub Bytes : Word → Type 0
+Bytes w = (b : ℕ) → b among w → b < 256
 
 -- `xs` is a beginning of `ys`
 pub record Begins (xs ys : Word) : Type 0 where

@@ -10,8 +10,8 @@ mul-start c = search needs
 add-start : tie.Need-add-start
 add-start c = search needs
 
-length-requires : tie.Need-length-requires
-length-requires c κs = search needs
+piece-length-requires : tie.Need-piece-length-requires
+piece-length-requires c κs = search needs
 
 add-end : tie.Need-add-end
 add-end c = search needs
@@ -34,7 +34,7 @@ piece-spec =
     (tie.spec
     mul-start
     add-start
-    length-requires
+    piece-length-requires
     add-end
     sub-result
     part-result-start
