@@ -126,7 +126,7 @@ module _ (B C : List ℕ) (b : Kept B) (c : Kept C) (e : sessionOf B ≡ session
       go (inr k) =
           let n = length-same i lt in
           let m = count-byte in
-          b .pieces i lt j k le ∙ sym (c .pieces i (omega arith) j (omega arith) le)
+          b .unused .pieces i lt j k le ∙ sym (c .unused .pieces i (omega arith) j (omega arith) le)
 
   -- things of `w` bytes from `s` on: where those that are used are the same, and the rest, all is
   part-same : (s w : ℕ) (start : ℕ → ℕ) → 0 < w → ((i : ℕ) → start i ≡ s + w * i)
@@ -155,13 +155,13 @@ module _ (B C : List ℕ) (b : Kept B) (c : Kept C) (e : sessionOf B ≡ session
       go k lt (inr w) (inl x) z u = let e : k ≡ 1 = omega arith in rw e count-byte
       go k lt (inr w) (inr x) (inl z) u =
           part-same 2 5 linkStart (omega arith) (λ i. refl) link-byte k x
-          (λ le. let n = count-byte in b .links k le z ∙ sym (c .links k (omega arith) z))
+          (λ le. let n = count-byte in b .unused .links k le z ∙ sym (c .unused .links k (omega arith) z))
       go k lt (inr w) (inr x) (inr z) (inl u) =
           part-same 322 2 lengthStart (omega arith) (λ i. refl) length-byte k z
-          (λ le. let n = count-byte in b .lengths k le u ∙ sym (c .lengths k (omega arith) u))
+          (λ le. let n = count-byte in b .unused .lengths k le u ∙ sym (c .unused .lengths k (omega arith) u))
       go k lt (inr w) (inr x) (inr z) (inr u) =
           part-same 450 512 pieceStart (omega arith) (λ i. refl) piece-byte k u
           (λ le.
           let n = count-byte in
           let m : k < size = omega (arith, b .whole) in
-          b .rest k le m ∙ sym (c .rest k (omega arith) m))
+          b .unused .rest k le m ∙ sym (c .unused .rest k (omega arith) m))

@@ -243,11 +243,13 @@ module _ (S : Session) (ok : Fits S) where
         small = small-all S small-of;
         count = omega (arith, count-of, ok .count);
         below = λ i lt h. unfilled i (omega (arith, count-of)) h;
-        links = λ k le lt. unused-link k (omega (arith, count-of)) lt;
         short = λ i lt. fits i (omega (arith, count-of));
-        lengths = λ k le lt. unused-length k (omega (arith, count-of)) lt;
-        pieces = λ i lt j le h. past i (omega (arith, count-of)) j le h;
-        rest = λ k le lt. unused-piece k (omega (arith, count-of)) lt;
+        unused = record {
+          links = λ k le lt. unused-link k (omega (arith, count-of)) lt;
+          lengths = λ k le lt. unused-length k (omega (arith, count-of)) lt;
+          pieces = λ i lt j le h. past i (omega (arith, count-of)) j le h;
+          rest = λ k le lt. unused-piece k (omega (arith, count-of)) lt;
+        };
       }
     where
       unfilled : (i : ℕ) → i < length (S .entries) → byte B (linkStart i) ≡ 0

@@ -42,6 +42,11 @@ pair q m = record { state = q; marker = m }
 abbrev pub belowAt : List ℕ → ℕ → Pair
 belowAt bytes i = pair (byte bytes (linkStart i + 3)) (byte bytes (linkStart i + 4))
 
+-- a link at level 0 has nothing below, which is not used
+abbrev pub NoneBelow : List ℕ → ℕ → Type 0
+NoneBelow bytes i =
+    byte bytes (linkStart i) ≡ 0 → (byte bytes (linkStart i + 3) ≡ 0) × (byte bytes (linkStart i + 4) ≡ 0)
+
 -- level, pair, and the pair below, which a link at level 0 has none of
 abbrev pub linkAt : List ℕ → ℕ → Link
 linkAt bytes i =
@@ -62,19 +67,22 @@ entryAt bytes i = entry (linkAt bytes i) (pieceAt bytes i)
 abbrev pub sessionOf : List ℕ → Session
 sessionOf bytes = record { depth = byte bytes 0; entries = map (entryAt bytes) (upTo (countOf bytes)) }
 
+-- "places not used hold 0": of links, of lengths, of pieces behind their lengths, of pieces
+pub record Unused (bytes : List ℕ) : Type 0 where
+  pub links : (k : ℕ) → linkStart (countOf bytes) ≤ k → k < lengthStart 0 → byte bytes k ≡ 0
+  pub lengths : (k : ℕ) → lengthStart (countOf bytes) ≤ k → k < pieceStart 0 → byte bytes k ≡ 0
+  pub pieces : (i : ℕ) → i < countOf bytes → (j : ℕ) → lengthAt bytes i ≤ j → j < pieceRoom
+      → byte bytes (pieceStart i + j) ≡ 0
+  pub rest : (k : ℕ) → pieceStart (countOf bytes) ≤ k → k < size → byte bytes k ≡ 0
+
 -- "Pieces are kept in the order of their links, and places not used hold 0"
 pub record Kept (bytes : List ℕ) : Type 0 where
   pub whole : length bytes ≡ size
   pub small : Bytes bytes
   pub count : countOf bytes ≤ linksCap
-  pub below : (i : ℕ) → i < countOf bytes → byte bytes (linkStart i) ≡ 0
-      → (byte bytes (linkStart i + 3) ≡ 0) × (byte bytes (linkStart i + 4) ≡ 0)
-  pub links : (k : ℕ) → linkStart (countOf bytes) ≤ k → k < lengthStart 0 → byte bytes k ≡ 0
+  pub below : (i : ℕ) → i < countOf bytes → NoneBelow bytes i
   pub short : (i : ℕ) → i < countOf bytes → lengthAt bytes i ≤ pieceRoom
-  pub lengths : (k : ℕ) → lengthStart (countOf bytes) ≤ k → k < pieceStart 0 → byte bytes k ≡ 0
-  pub pieces : (i : ℕ) → i < countOf bytes → (j : ℕ) → lengthAt bytes i ≤ j → j < pieceRoom
-      → byte bytes (pieceStart i + j) ≡ 0
-  pub rest : (k : ℕ) → pieceStart (countOf bytes) ≤ k → k < size → byte bytes k ≡ 0
+  pub unused : Unused bytes
 
 -- the bytes are a session that is sound for a table
 pub record SoundBytes (T : Table) (bytes : List ℕ) : Type 0 where

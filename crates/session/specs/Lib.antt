@@ -2,3 +2,4 @@
 pub mod Sessions
 pub mod Soundly
 pub mod Bytes
+pub mod Calls
