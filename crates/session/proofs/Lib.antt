@@ -9,4 +9,5 @@ pub mod Soundly
 pub mod Bytes
 pub mod Encoded
 pub mod RoundTrip
+pub mod Passed
 mod Worked

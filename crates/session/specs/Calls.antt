@@ -47,6 +47,10 @@ pub record Links (T : Table) (bytes : List ℕ) : Type 0 where
 abbrev pub RootedAt : List ℕ → ℕ → Type 0
 RootedAt bytes i = (footAt bytes i ≡ 0) ⊎ ((j : ℕ) × (j < countOf bytes) × (seatAt bytes j ≡ footAt bytes i))
 
+-- the first byte of a piece is a byte, and that of the pieces before it, where there are any
+abbrev pub Agrees : ℕ → ℕ → Type 0
+Agrees first head = (head < 256) × (first < 256 → head ≡ first)
+
 -- the pieces on the links with one foot have a common first byte
 abbrev pub Common : List ℕ → ℕ → Type 0
 Common bytes foot =

@@ -1,2 +1,3 @@
 // Sessions: what their bytes stand for, and which are sound for a table.
 pub mod places;
+mod rules;

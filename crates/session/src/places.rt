@@ -5,6 +5,7 @@ ghost use mathlib.Core.Path.{_≡_};
 ghost use Prim.Native.Nat.{_≤_, _<_};
 ghost use Rattle.table.specs.File.{byte};
 ghost use Rattle.session.specs.Bytes.{pieceRoom, countOf, lengthAt, belowAt, linkAt, pieceAt};
+ghost use Rattle.session.specs.Calls.{seatAt, footAt, keyAt, headAt};
 
 // Where links, lengths and pieces start, how many places a piece has, and how many bytes there are.
 const LINKS: usize = 2;
@@ -31,21 +32,21 @@ pub fn count(session: &[u8; SIZE]) -> usize
 
 pub fn level(session: &[u8; SIZE], i: usize) -> usize
     requires { ⌜ i < 64 ⌝ }
-    ensures { λ r. ⌜ r ≡ linkAt (now (session .entry)) i .level ⌝ }
+    ensures { λ r. ⌜ (r ≡ linkAt (now (session .entry)) i .level) × (r < 256) ⌝ }
 {
     wide(session[LINKS + 5 * i])
 }
 
 pub fn state(session: &[u8; SIZE], i: usize) -> usize
     requires { ⌜ i < 64 ⌝ }
-    ensures { λ r. ⌜ r ≡ linkAt (now (session .entry)) i .here .state ⌝ }
+    ensures { λ r. ⌜ (r ≡ linkAt (now (session .entry)) i .here .state) × (r < 256) ⌝ }
 {
     wide(session[LINKS + 5 * i + 1])
 }
 
 pub fn marker(session: &[u8; SIZE], i: usize) -> usize
     requires { ⌜ i < 64 ⌝ }
-    ensures { λ r. ⌜ r ≡ linkAt (now (session .entry)) i .here .marker ⌝ }
+    ensures { λ r. ⌜ (r ≡ linkAt (now (session .entry)) i .here .marker) × (r < 256) ⌝ }
 {
     wide(session[LINKS + 5 * i + 2])
 }
@@ -53,14 +54,14 @@ pub fn marker(session: &[u8; SIZE], i: usize) -> usize
 // Where a link has a pair below, that pair.
 pub fn state_below(session: &[u8; SIZE], i: usize) -> usize
     requires { ⌜ i < 64 ⌝ }
-    ensures { λ r. ⌜ r ≡ belowAt (now (session .entry)) i .state ⌝ }
+    ensures { λ r. ⌜ (r ≡ belowAt (now (session .entry)) i .state) × (r < 256) ⌝ }
 {
     wide(session[LINKS + 5 * i + 3])
 }
 
 pub fn marker_below(session: &[u8; SIZE], i: usize) -> usize
     requires { ⌜ i < 64 ⌝ }
-    ensures { λ r. ⌜ r ≡ belowAt (now (session .entry)) i .marker ⌝ }
+    ensures { λ r. ⌜ (r ≡ belowAt (now (session .entry)) i .marker) × (r < 256) ⌝ }
 {
     wide(session[LINKS + 5 * i + 4])
 }
@@ -81,4 +82,40 @@ pub fn piece(session: &[u8; SIZE], i: usize) -> &[u8]
     let end = start + piece_length(session, i);
     let all = &session[..];
     &all[start..end]
+}
+
+// What links may stand on: level, state and marker as one number.
+pub fn seat(session: &[u8; SIZE], i: usize) -> usize
+    requires { ⌜ i < 64 ⌝ }
+    ensures { λ r. ⌜ r ≡ seatAt (now (session .entry)) i ⌝ }
+{
+    ((level(session, i) + 1) * 256 + state(session, i)) * 256 + marker(session, i)
+}
+
+// What a link stands on, in the same way.
+pub fn foot(session: &[u8; SIZE], i: usize) -> usize
+    requires { ⌜ i < 64 ⌝ }
+    ensures { λ r. ⌜ r ≡ footAt (now (session .entry)) i ⌝ }
+{
+    (level(session, i) * 256 + state_below(session, i)) * 256 + marker_below(session, i)
+}
+
+// The five bytes of a link as one number, which rises as links do.
+pub fn key(session: &[u8; SIZE], i: usize) -> usize
+    requires { ⌜ i < 64 ⌝ }
+    ensures { λ r. ⌜ (r ≡ keyAt (now (session .entry)) i) × (r < 1099511627776) ⌝ }
+{
+    let here = (level(session, i) * 256 + state(session, i)) * 256 + marker(session, i);
+    (here * 256 + state_below(session, i)) * 256 + marker_below(session, i)
+}
+
+// The first byte of a piece; 256 where it is empty.
+pub fn head(session: &[u8; SIZE], i: usize) -> usize
+    requires { ⌜ i < 64 ⌝ }
+    ensures { λ r. ⌜ r ≡ headAt (now (session .entry)) i ⌝ }
+{
+    if piece_length(session, i) == 0 {
+        return 256;
+    }
+    wide(session[PIECES + ROOM * i])
 }

@@ -1,0 +1,158 @@
+// The rules of soundness that look at links: each says whether the session keeps it.
+use crate::places;
+use crate::places::SIZE;
+ghost use mathlib.Core.Path.{_≡_};
+ghost use mathlib.Core.Logic.{_↔_};
+ghost use Prim.Native.Nat.{_≤_, _<_};
+ghost use Rattle.words.specs.Lists.{Exact};
+ghost use Rattle.table.specs.File.{tableOf};
+ghost use Rattle.table.specs.Good.{first, Good};
+ghost use Rattle.session.specs.Bytes.{countOf};
+ghost use Rattle.session.specs.Calls.{LinkFits, Links, RootedAt, Agrees, Common, CarriesAt, Grouped};
+
+// "marker 0 exactly at level 0"
+fn mark_fits(level: usize, marker: usize) -> bool
+    ensures { λ r. ⌜ Exact ((marker ≡ 0) ↔ (level ≡ 0)) r ⌝ }
+{
+    if level == 0 {
+        return marker == 0;
+    }
+    marker != 0
+}
+
+// Whether a link keeps the rules that look at no other.
+fn link_fits(file: &[u8], session: &[u8; SIZE], i: usize) -> bool
+    requires { ⌜ (Good first (now file)) × (i < 64) ⌝ }
+    ensures { λ r. ⌜ Exact (LinkFits (tableOf (now (file .entry))) (now (session .entry)) i) r ⌝ }
+{
+    let level = places::level(session, i);
+    if places::depth(session) < level {
+        return false;
+    }
+    if table::states(file) <= places::state(session, i) {
+        return false;
+    }
+    let marker = places::marker(session, i);
+    if table::markers(file) < marker {
+        return false;
+    }
+    if 512 < places::piece_length(session, i) {
+        return false;
+    }
+    if !mark_fits(level, marker) {
+        return false;
+    }
+    if 0 < level {
+        return true;
+    }
+    places::foot(session, i) == 0
+}
+
+// Whether all links do, and rise: each number is at least one more than that of the link before it.
+pub fn links(file: &[u8], session: &[u8; SIZE]) -> bool
+    requires { ⌜ (Good first (now file)) × (countOf (now session) ≤ 64) ⌝ }
+    ensures { λ r. ⌜ Exact (Links (tableOf (now (file .entry))) (now (session .entry))) r ⌝ }
+{
+    let n = places::count(session);
+    let mut least = 0;
+    let mut i = 0;
+    while i < n {
+        if !link_fits(file, session, i) {
+            return false;
+        }
+        let key = places::key(session, i);
+        if key < least {
+            return false;
+        }
+        least = key + 1;
+        i += 1;
+    }
+    true
+}
+
+// Whether a link is at level 0 or stands on one that is there.
+fn rooted(session: &[u8; SIZE], i: usize) -> bool
+    requires { ⌜ (countOf (now session) ≤ 64) × (i < 64) ⌝ }
+    ensures { λ r. ⌜ Exact (RootedAt (now (session .entry)) i) r ⌝ }
+{
+    let foot = places::foot(session, i);
+    if foot == 0 {
+        return true;
+    }
+    let n = places::count(session);
+    let mut j = 0;
+    while j < n {
+        if places::seat(session, j) == foot {
+            return true;
+        }
+        j += 1;
+    }
+    false
+}
+
+// Whether a piece begins with the byte that all before it begin with; `first` is 256 where there are none before it.
+fn agrees(first: usize, head: usize) -> bool
+    ensures { λ r. ⌜ Exact (Agrees first head) r ⌝ }
+{
+    if head >= 256 {
+        return false;
+    }
+    if first >= 256 {
+        return true;
+    }
+    head == first
+}
+
+// Whether the pieces on the links with one foot have no common first byte.
+fn apart(session: &[u8; SIZE], foot: usize) -> bool
+    requires { ⌜ countOf (now session) ≤ 64 ⌝ }
+    ensures { λ r. ⌜ Exact (Common (now (session .entry)) foot → ⊥) r ⌝ }
+{
+    let n = places::count(session);
+    let mut first = 256;
+    let mut j = 0;
+    while j < n {
+        if places::foot(session, j) == foot {
+            let head = places::head(session, j);
+            if !agrees(first, head) {
+                return true;
+            }
+            first = head;
+        }
+        j += 1;
+    }
+    false
+}
+
+// Whether a link is at the depth, or those that stand on it have no common first byte, and there are some.
+fn carries(session: &[u8; SIZE], i: usize) -> bool
+    requires { ⌜ (countOf (now session) ≤ 64) × (i < 64) ⌝ }
+    ensures { λ r. ⌜ Exact (CarriesAt (now (session .entry)) i) r ⌝ }
+{
+    if places::level(session, i) == places::depth(session) {
+        return true;
+    }
+    apart(session, places::seat(session, i))
+}
+
+// Whether every link lies on a full trail, and no pieces that could have been moved down were left.
+pub fn groups(session: &[u8; SIZE]) -> bool
+    requires { ⌜ countOf (now session) ≤ 64 ⌝ }
+    ensures { λ r. ⌜ Exact (Grouped (now (session .entry))) r ⌝ }
+{
+    if !apart(session, 0) {
+        return false;
+    }
+    let n = places::count(session);
+    let mut i = 0;
+    while i < n {
+        if !rooted(session, i) {
+            return false;
+        }
+        if !carries(session, i) {
+            return false;
+        }
+        i += 1;
+    }
+    true
+}
