@@ -10,4 +10,5 @@ pub mod Bytes
 pub mod Encoded
 pub mod RoundTrip
 pub mod Passed
+pub mod Feet
 mod Worked

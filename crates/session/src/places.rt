@@ -66,6 +66,30 @@ pub fn marker_below(session: &[u8; SIZE], i: usize) -> usize
     wide(session[LINKS + 5 * i + 4])
 }
 
+// A link's seat and its foot: it stands on the link whose seat is its foot, and one at level 0 has foot 0.
+pub fn seat(session: &[u8; SIZE], i: usize) -> usize
+    requires { ⌜ i < 64 ⌝ }
+    ensures { λ r. ⌜ r ≡ seatAt (now (session .entry)) i ⌝ }
+{
+    ((level(session, i) + 1) * 256 + state(session, i)) * 256 + marker(session, i)
+}
+
+pub fn foot(session: &[u8; SIZE], i: usize) -> usize
+    requires { ⌜ i < 64 ⌝ }
+    ensures { λ r. ⌜ r ≡ footAt (now (session .entry)) i ⌝ }
+{
+    (level(session, i) * 256 + state_below(session, i)) * 256 + marker_below(session, i)
+}
+
+// The five bytes of a link as one number, which rises as links do.
+pub fn key(session: &[u8; SIZE], i: usize) -> usize
+    requires { ⌜ i < 64 ⌝ }
+    ensures { λ r. ⌜ (r ≡ keyAt (now (session .entry)) i) × (r < 1099511627776) ⌝ }
+{
+    let here = (level(session, i) * 256 + state(session, i)) * 256 + marker(session, i);
+    (here * 256 + state_below(session, i)) * 256 + marker_below(session, i)
+}
+
 pub fn piece_length(session: &[u8; SIZE], i: usize) -> usize
     requires { ⌜ i < 64 ⌝ }
     ensures { λ r. ⌜ r ≡ lengthAt (now (session .entry)) i ⌝ }
@@ -82,31 +106,6 @@ pub fn piece(session: &[u8; SIZE], i: usize) -> &[u8]
     let end = start + piece_length(session, i);
     let all = &session[..];
     &all[start..end]
-}
-
-// What links may stand on: level, state and marker as one number.
-pub fn seat(session: &[u8; SIZE], i: usize) -> usize
-    requires { ⌜ i < 64 ⌝ }
-    ensures { λ r. ⌜ r ≡ seatAt (now (session .entry)) i ⌝ }
-{
-    ((level(session, i) + 1) * 256 + state(session, i)) * 256 + marker(session, i)
-}
-
-// What a link stands on, in the same way.
-pub fn foot(session: &[u8; SIZE], i: usize) -> usize
-    requires { ⌜ i < 64 ⌝ }
-    ensures { λ r. ⌜ r ≡ footAt (now (session .entry)) i ⌝ }
-{
-    (level(session, i) * 256 + state_below(session, i)) * 256 + marker_below(session, i)
-}
-
-// The five bytes of a link as one number, which rises as links do.
-pub fn key(session: &[u8; SIZE], i: usize) -> usize
-    requires { ⌜ i < 64 ⌝ }
-    ensures { λ r. ⌜ (r ≡ keyAt (now (session .entry)) i) × (r < 1099511627776) ⌝ }
-{
-    let here = (level(session, i) * 256 + state(session, i)) * 256 + marker(session, i);
-    (here * 256 + state_below(session, i)) * 256 + marker_below(session, i)
 }
 
 // The first byte of a piece; 256 where it is empty.

@@ -1,5 +1,5 @@
 -- What a test says exactly, and how tests of parts make a test of the whole. Assumes nothing.
-use mathlib.Core.Path.{_≡_, refl}
+use mathlib.Core.Path.{_≡_, refl, sym}
 use mathlib.Core.Logic.{_↔_, _⊎_, inl, inr}
 use mathlib.Core.Bool.{Bool, true, false, cond, not, _&&_, _||_, false≢true}
 use mathlib.Core.List.{List, List·Memᴰ·not-nil}
@@ -45,6 +45,12 @@ same-exact v w = (same-in, same-out v w)
 -- the same test for a sentence that holds exactly when another does
 pub exact-as : {P Q : Type 0} {b : Bool} → P ↔ Q → Exact P b → Exact Q b
 exact-as f e = (λ q. e .0 (f .1 q), λ h. f .0 (e .1 h))
+
+-- two tests for one sentence answer alike
+pub exact-same : {P : Type 0} {a b : Bool} → Exact P a → Exact P b → a ≡ b
+exact-same {a = true} e f = sym (f .0 (e .1 refl))
+exact-same {a = false} {b = true} e f = e .0 (f .1 refl)
+exact-same {a = false} {b = false} e f = refl
 
 module _ {P : Type 0} where
   pub not-exact : {b : Bool} → Exact P b → Exact (P → ⊥) (not b)
