@@ -15,6 +15,7 @@ use Rattle.words.specs.Lists.{_among_, upTo}
 use Rattle.words.specs.Words.{Word}
 use Rattle.words.proofs.Lists.{upTo-in, length-upTo, below-or, getD-byte}
 use Rattle.meaning.specs.Trails.{Pair, Link}
+use Rattle.meaning.specs.Answers.{linksCap}
 use Rattle.table.specs.File.{byte}
 use Rattle.session.specs.Sessions.{Entry, Session}
 use Rattle.session.specs.Bytes.{linkStart, lengthStart, pieceStart, pieceRoom, size, countOf, lengthAt, belowAt}
@@ -32,11 +33,18 @@ none-some h = subst filled (sym h) tt
     filled none = ⊥
     filled (some p) = Unit {0}
 
--- a piece is as long as its length says
-long : (B : List ℕ) → Kept B → (i : ℕ) → i < countOf B → length (pieceAt B i) ≡ lengthAt B i
-long B b i lt =
-    length-take-le (lengthAt B i) (drop (pieceStart i) B)
-    (omega (arith, b .short i lt, length-drop (pieceStart i) B, b .whole, b .count))
+-- there are as many entries as the count says
+pub counted : (A : List ℕ) → length (sessionOf A .entries) ≡ countOf A
+counted A = length-map (upTo (countOf A)) (entryAt A) ∙ length-upTo (countOf A)
+
+-- a piece is as long as its length says, and has the bytes of its places
+pub long : (A : List ℕ) → length A ≡ size → countOf A ≤ linksCap → (i : ℕ) → i < countOf A → lengthAt A i ≤ pieceRoom
+    → length (pieceAt A i) ≡ lengthAt A i
+long A whole few i lt short =
+    length-take-le (lengthAt A i) (drop (pieceStart i) A) (omega (arith, length-drop (pieceStart i) A))
+
+pub in-piece : (A : List ℕ) (i j : ℕ) → j < lengthAt A i → getD (pieceAt A i) j 0 ≡ byte A (pieceStart i + j)
+in-piece A i j lt = getD-take (lengthAt A i) (drop (pieceStart i) A) j 0 lt ∙ getD-drop (pieceStart i) A j 0
 
 module _ (B C : List ℕ) (b : Kept B) (c : Kept C) (e : sessionOf B ≡ sessionOf C) where
   depth-byte : byte B 0 ≡ byte C 0
@@ -46,9 +54,6 @@ module _ (B C : List ℕ) (b : Kept B) (c : Kept C) (e : sessionOf B ≡ session
   count-byte =
       let f = ap (λ (S : Session). length (S .entries)) e in
       sym (counted B) ∙ f ∙ counted C
-    where
-      counted : (A : List ℕ) → length (map (entryAt A) (upTo (countOf A))) ≡ countOf A
-      counted A = length-map (upTo (countOf A)) (entryAt A) ∙ length-upTo (countOf A)
 
   entry-same : (i : ℕ) → i < countOf B → entryAt B i ≡ entryAt C i
   entry-same i lt =
@@ -65,7 +70,10 @@ module _ (B C : List ℕ) (b : Kept B) (c : Kept C) (e : sessionOf B ≡ session
   length-same : (i : ℕ) → i < countOf B → lengthAt B i ≡ lengthAt C i
   length-same i lt =
       let n = count-byte in
-      sym (long B b i lt) ∙ ap length (piece-same i lt) ∙ long C c i (omega arith)
+      sym (kept-long B b i lt) ∙ ap length (piece-same i lt) ∙ kept-long C c i (omega arith)
+    where
+      kept-long : (A : List ℕ) → Kept A → (i : ℕ) → i < countOf A → length (pieceAt A i) ≡ lengthAt A i
+      kept-long A k i lt = long A (k .whole) (k .count) i lt (k .short i lt)
 
   -- the bytes of a link that is used
   below-same : (i : ℕ) → i < countOf B
@@ -112,9 +120,6 @@ module _ (B C : List ℕ) (b : Kept B) (c : Kept C) (e : sessionOf B ≡ session
       let n = length-same i lt in
       omega (arith, getD-byte B (b .small) (lengthStart i), getD-byte C (c .small) (lengthStart i))
   length-byte i (suc (suc j)) lt le = absurd (omega arith)
-
-  in-piece : (A : List ℕ) (i j : ℕ) → j < lengthAt A i → getD (pieceAt A i) j 0 ≡ byte A (pieceStart i + j)
-  in-piece A i j lt = getD-take (lengthAt A i) (drop (pieceStart i) A) j 0 lt ∙ getD-drop (pieceStart i) A j 0
 
   piece-byte : (i j : ℕ) → i < countOf B → j < pieceRoom → byte B (pieceStart i + j) ≡ byte C (pieceStart i + j)
   piece-byte i j lt le = go (below-or j (lengthAt B i))

@@ -1,8 +1,7 @@
 -- Feet and seats compare as links do: which link stands on which, and which are at level 0. Assumes nothing.
 use mathlib.Core.Path.{_≡_, sym, _∙_, ap}
 use mathlib.Core.Logic.{_↔_}
-use mathlib.Core.Bool.{cond}
-use mathlib.Core.Option.{Option, some, none, Option·some-injective}
+use mathlib.Core.Option.{some, none, Option·some-injective}
 use mathlib.Core.List.{List}
 use Prim.Native.Nat.{ℕ, suc, _+_, _<_}
 use native.Mathlib.Omega.{arith}
@@ -26,10 +25,10 @@ abbrev Lowest : List ℕ → ℕ → Type 0
 Lowest bytes j = linkAt bytes j ≡ linkOf (ground (linkAt bytes j .here .state))
 
 module _ (bytes : List ℕ) where
-  some-below : (j : ℕ) → (linkAt bytes j .level ≡ 0 → ⊥) → linkAt bytes j .below ≡ some (belowAt bytes j)
+  pub some-below : (j : ℕ) → (linkAt bytes j .level ≡ 0 → ⊥) → linkAt bytes j .below ≡ some (belowAt bytes j)
   some-below j f = rw (ne-eqb (linkAt bytes j .level) 0 f)
 
-  none-below : (j : ℕ) → linkAt bytes j .level ≡ 0 → linkAt bytes j .below ≡ none
+  pub none-below : (j : ℕ) → linkAt bytes j .level ≡ 0 → linkAt bytes j .below ≡ none
   none-below j e = rw (eq-eqb (linkAt bytes j .level) 0 e)
 
   module _ {T : Table} (j : ℕ) (fits : LinkFits T bytes j) where

@@ -11,4 +11,6 @@ pub mod Encoded
 pub mod RoundTrip
 pub mod Passed
 pub mod Feet
+pub mod Keys
+pub mod ByPlace
 mod Worked

@@ -4,14 +4,13 @@ use mathlib.Core.Logic.{_⊎_, inl, inr}
 use mathlib.Core.List.{List}
 use Prim.Native.Nat.{ℕ, zero, suc, _+_, _<_, _≤_}
 use native.Mathlib.Omega.{arith}
-use lib.Dec.{eqb}
 use borrow.Author.Count.{below-more}
 use borrow.Author.Tests.{eq-eqb, ne-eqb}
 use Rattle.words.proofs.Lists.{below-or}
 use Rattle.meaning.specs.Table.{Table}
 use Rattle.table.specs.File.{byte}
 use Rattle.session.specs.Bytes.{pieceStart, countOf, lengthAt}
-use Rattle.session.specs.Calls.{footAt, keyAt, headAt, LinkFits, Links, RootedAt, Agrees, Common, CarriesAt, Grouped}
+use Rattle.session.specs.Calls.{footAt, keyAt, headAt, LinkFits, Links, Agrees, Common}
 
 -- the first byte of a piece, by its length
 pub head-empty : (bytes : List ℕ) (i : ℕ) → lengthAt bytes i ≡ 0 → headAt bytes i ≡ 256

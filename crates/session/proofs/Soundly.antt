@@ -1,12 +1,11 @@
 -- The test of soundness passes exactly for sound sessions. Assumes nothing.
 use mathlib.Core.Path.{_≡_, refl, sym, _∙_, ap}
-use mathlib.Core.Logic.{_⊎_, inl, inr}
-use mathlib.Core.Bool.{Bool, not}
+use mathlib.Core.Logic.{_⊎_, inl, inr, _↔_}
+use mathlib.Core.Bool.{Bool}
 use mathlib.Core.List.{[], _∷_, _++_, List·Memᴰ·head, List·Memᴰ·tail, Memᴰ·cast}
 use Prim.Native.Nat.{ℕ, zero, suc, _-_, _<_, _≤_}
 use native.Mathlib.Nat.{eq-or-lt-of-le}
 use native.Mathlib.Omega.{arith}
-use lib.Dec.{leb}
 use lib.ListN.{length}
 use Rattle.words.specs.Lists.{_among_, every, Exact}
 use Rattle.words.specs.Words.{Word, Bytes}
@@ -19,7 +18,7 @@ use Rattle.meaning.specs.Answers.{linksCap}
 use Rattle.meaning.proofs.Trails.{Under, same, more, under-height}
 use Rattle.session.specs.Sessions.{Apart, Lies, RisesByLink, Entry, entry, Session, Has, Spells, Waits, AllBegin}
 use Rattle.session.specs.Sessions.{Ranges, Sound, onBottom, standsOn}
-use Rattle.session.specs.Soundly.{inRanges, rooted, piecesOn, allBegin, carries, longest, inBytes, soundly}
+use Rattle.session.specs.Soundly.{inRanges, rooted, piecesOn, carries, longest, inBytes, soundly}
 use Rattle.session.proofs.Tests.{bottom-exact, stands-exact, as-has, apart-exact, on-pieces, bottom-pieces}
 use Rattle.session.proofs.Tests.{rising-exact}
 use Rattle.session.proofs.Spells.{above-under, above-spells, from-bottom, level-linkOf, has-top, links-under}
@@ -125,7 +124,7 @@ module _ (S : Session) (roots : (l : Link) (x : Word) → Has S l x → Rooted S
             (p .1, x, p .3, as-has S (entry l x) _ h e, refl),
           )
 
-  rooted-lies : Apart S → Lies S
+  pub rooted-lies : Apart S → Lies S
   rooted-lies apart l x h =
       let s = down (l .level) l x refl h in
       let a = ap (λ (k : Link). k .level) (s .2) in
@@ -139,11 +138,9 @@ module _ (S : Session) (roots : (l : Link) (x : Word) → Has S l x → Rooted S
       )
 
 -- "the waiting outputs have no common first byte": the pieces at level 0 have none
-bottom-exact-all : (S : Session) → Apart S
-    → Exact (AllBegin (λ w. (t : Trail) × Waits S t w) → ⊥) (not (allBegin (piecesOn onBottom (S .entries))))
-bottom-exact-all S apart =
-    exact-as (λ n a. n (lowest-all a), λ n a. n (waiting-all a))
-    (apart-exact (piecesOn onBottom (S .entries)) (bottom-pieces S))
+pub bottom-lowest : (S : Session) → Apart S
+    → (AllBegin (λ y. (q : ℕ) × Has S (linkOf (ground q)) y) → ⊥) ↔ (AllBegin (λ w. (t : Trail) × Waits S t w) → ⊥)
+bottom-lowest S apart = (λ n a. n (lowest-all a), λ n a. n (waiting-all a))
   where
     lowest-all : AllBegin (λ w. (t : Trail) × Waits S t w) → AllBegin (λ y. (q : ℕ) × Has S (linkOf (ground q)) y)
     lowest-all a = (
@@ -160,18 +157,17 @@ bottom-exact-all S apart =
           begins-trans (a .1 (r .1) (r .0, r .3)) (begins (r .2) (sym (r .5))),
     )
 
--- "no trail's waiting output is longer than the cap"
-short-exact : (S : Session) → RisesByLink (S .entries) → Apart S → Lies S
-    → (t : Trail) (w : Word) → Waits S t w → (n : ℕ)
-    → Exact ((t : Trail) (w : Word) → Waits S t w → length w ≤ n) (leb (longest (S .entries)) n)
-short-exact S rise apart lies t w h n =
-    exact-as (
-      λ le t w h. omega (arith, waits-longest S rise t w (h .spells)),
-      λ all.
-          let r = longest-waits S rise apart (λ l x h. lies-rooted S lies l x h .0) t w (h .spells) in
-          omega (arith, all (r .0) (r .1) (r .2), r .3),
-    )
-    (leb-exact (longest (S .entries)) n)
+-- "no trail's waiting output is longer than the cap": the longest is not
+pub short-longest : (S : Session) → RisesByLink (S .entries) → Apart S → Lies S → 1 ≤ length (S .entries) → (n : ℕ)
+    → (longest (S .entries) ≤ n) ↔ ((t : Trail) (w : Word) → Waits S t w → length w ≤ n)
+short-longest S rise apart lies some n = (
+  λ le t w h. omega (arith, waits-longest S rise t w (h .spells)),
+  λ all.
+      let w = some-waits S some lies in
+      let r =
+      longest-waits S rise apart (λ l x h. lies-rooted S lies l x h .0) (w .0) (w .1) (w .2 .spells) in
+      omega (arith, all (r .0) (r .1) (r .2), r .3),
+)
 
 bytes-exact : (w : Word) → Exact (Bytes w) (inBytes w)
 bytes-exact w = every-exact w (λ b m. ltb-exact b 256)
@@ -221,7 +217,7 @@ soundly-exact T S =
     then-exact (has-exact S (λ e. carries S (e .link)) (λ l x h. carries-exact S l (roots l x h .0)))
     (λ apart.
     let lies = rooted-lies S roots apart in
-    let w = some-waits S some lies in
-    and-exact (bottom-exact-all S apart)
-    (and-exact (short-exact S rise apart lies (w .0) (w .1) (w .2) (T .waitingCap))
+    let waiting = leb-exact (longest (S .entries)) (T .waitingCap) in
+    and-exact (exact-as (bottom-lowest S apart) (apart-exact (piecesOn onBottom (S .entries)) (bottom-pieces S)))
+    (and-exact (exact-as (short-longest S rise apart lies some (T .waitingCap)) waiting)
     (has-exact S (λ e. inBytes (e .piece)) (λ l x h. bytes-exact x)))))))))))

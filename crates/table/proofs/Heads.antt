@@ -1,23 +1,13 @@
 -- When a row stands above another: by their heads, each one number, and where these are the same by their words.
 -- Assumes nothing.
 use mathlib.Core.Path.{_≡_}
-use mathlib.Core.Logic.{_⊎_, _↔_, inl, inr, ⊎-elim}
-use Prim.Native.Nat.{ℕ, _-_, _<_, _≤_}
-use native.Mathlib.Nat.{eq-zero-or-pos}
+use mathlib.Core.Logic.{_↔_, inr}
+use Prim.Native.Nat.{ℕ, _-_, _<_}
 use native.Mathlib.Omega.{arith}
 use Rattle.words.specs.Order.{Less, lower, side}
-use Rattle.words.proofs.Order.{less-self, less-trans, side-lower, less-side}
+use Rattle.words.proofs.Order.{less-self, less-trans, side-lower, less-side, first-below, first-same}
 use Rattle.meaning.specs.Table.{Row, rowKey}
 use Rattle.table.specs.Calls.{Headed}
-
--- the first of two numbers is below, or it is the same and the rest decides
-first-below : (x y : ℕ) {Q : Type 0} → x ≤ y → (x ≡ y → Q) → (x < y) ⊎ ((x ≡ y) × Q)
-first-below x y h k =
-    ⊎-elim (λ e. inr (omega arith, k (omega arith))) (λ l. inl (omega arith)) (eq-zero-or-pos (y - x))
-
-first-same : (x y : ℕ) {Q : Type 0} → x ≡ y → (x < y) ⊎ ((x ≡ y) × Q) → Q
-first-same x y e (inl h) = absurd (omega arith)
-first-same x y e (inr h) = h .1
 
 module _ {r s : Row} {head next : ℕ} (n : Headed r head) (m : Headed s next) where
   pub head-less : head < next → Less (rowKey r) (rowKey s)

@@ -242,3 +242,8 @@ getD-byte l h i = go (below-or i (length l))
     go : (i < length l) ⊎ (length l ≤ i) → getD l i 0 < 256
     go (inl lt) = h (getD l i 0) (getD-among l i 0 lt)
     go (inr le) = rw (List·getD-eq-default l 0 le) (omega arith)
+
+-- and a list with a byte at each place is one of bytes
+pub byte-getD : (l : Word) → ((i : ℕ) → getD l i 0 < 256) → Bytes l
+byte-getD (x ∷ l) h b (List·Memᴰ·head e) = rw e (h 0)
+byte-getD (x ∷ l) h b (List·Memᴰ·tail m) = byte-getD l (λ i. h (suc i)) b m

@@ -1,15 +1,18 @@
 -- Laws of the order of words and of lists that rise strictly. Assumes nothing.
 use mathlib.Core.Path.{_≡_, refl, sym, _∙_, ap}
 use mathlib.Core.Bool.{Bool, true, false, cond, false≢true}
-use mathlib.Core.Logic.{_⊎_, inl, inr}
+use mathlib.Core.Logic.{_⊎_, inl, inr, ⊎-elim}
 use mathlib.Core.List.{List, [], _∷_, _++_, List·Memᴰ·append-cases, List·Memᴰ·head, List·Memᴰ·tail}
-use mathlib.Core.List.{List·Memᴰ·cases-cons, map, Memᴰ·of-map}
-use Prim.Native.Nat.{ℕ, _<_}
+use mathlib.Core.List.{List·Memᴰ·cases-cons, map, map-append, Memᴰ·map, Memᴰ·of-map, Memᴰ·append-left}
+use mathlib.Core.List.{Memᴰ·append-right, List·Memᴰ·eq-of-singleton}
+use Prim.Native.Nat.{ℕ, zero, suc, _-_, _<_, _≤_}
+use native.Mathlib.Nat.{eq-zero-or-pos}
 use native.Mathlib.Omega.{arith}
 use lib.Dec.{eqb, ltb}
 use borrow.Author.Tests.{eqb-true, eqb-false, ltb-true, ltb-false, eq-eqb}
-use Rattle.words.specs.Lists.{_among_, Distinct}
+use Rattle.words.specs.Lists.{_among_, upTo, Distinct}
 use Rattle.words.specs.Words.{Word}
+use Rattle.words.proofs.Lists.{upTo-in, upTo-out, below-or}
 use Rattle.words.specs.Order.{Less, Side, lower, same, upper, side, isSame, sameWord, Rises}
 
 pub less-self : (xs : Word) → Less xs xs → ⊥
@@ -147,6 +150,56 @@ module _ {A : Type 0} (key : A → Word) where
       go : (y : A) → (y among l) ⊎ (y among m) → Less (key x) (key y)
       go y (inl i) = r .0 y i
       go y (inr i) = h x y (List·Memᴰ·head refl) i
+
+  pub rises-parts : (l m : List A) → Rises key (l ++ m)
+      → Rises key l × ((x y : A) → x among l → y among m → Less (key x) (key y))
+  rises-parts [] m r = (tt, λ x y i j. elim i [ ])
+  rises-parts (z ∷ l) m r =
+      let p = rises-parts l m (r .1) in
+      ((λ y i. r .0 y (Memᴰ·append-left m i), p .0), λ x y i j. go x y (List·Memᴰ·cases-cons i) j (p .1))
+    where
+      go : (x y : A) → (x ≡ z) ⊎ (x among l) → y among m
+          → ((x y : A) → x among l → y among m → Less (key x) (key y)) → Less (key x) (key y)
+      go x y (inl e) j ih = rw e (r .0 y (Memᴰ·append-right l j))
+      go x y (inr i) j ih = ih x y i j
+
+  -- a list made of the numbers below `n`, in their order
+  module _ (f : ℕ → A) where
+    abbrev RisesBelow : ℕ → Type 0
+    RisesBelow n = (i j : ℕ) → i < j → j < n → Less (key (f i)) (key (f j))
+
+    pub rises-out : (n : ℕ) → Rises key (map f (upTo n)) → RisesBelow n
+    rises-out zero r i j l h = absurd (omega arith)
+    rises-out (suc n) r i j l h =
+        let p = rises-parts (map f (upTo n)) (f n ∷ []) (rw (map-append f (upTo n) (n ∷ [])) at r) in
+        go (below-or j n) (λ k. rises-out n (p .0) i j l k) (p .1)
+      where
+        go : (j < n) ⊎ (n ≤ j) → (j < n → Less (key (f i)) (key (f j)))
+            → ((x y : A) → x among map f (upTo n) → y among f n ∷ [] → Less (key x) (key y))
+            → Less (key (f i)) (key (f j))
+        go (inl k) ih p = ih k
+        go (inr k) ih p =
+            let e : j ≡ n = omega arith in
+            rw e (p (f i) (f n) (Memᴰ·map f (upTo-in n i (omega arith))) (List·Memᴰ·head refl))
+
+    pub rises-in : (n : ℕ) → RisesBelow n → Rises key (map f (upTo n))
+    rises-in zero h = tt
+    rises-in (suc n) h =
+        rw (map-append f (upTo n) (n ∷ []))
+        (rises-append (map f (upTo n)) (f n ∷ []) (rises-in n (λ i j l k. h i j l (omega arith))) (λ y m. elim m [ ], tt)
+        (λ x y i m. go x y (Memᴰ·of-map f (upTo n) i) (List·Memᴰ·eq-of-singleton m)))
+      where
+        go : (x y : A) → (i : ℕ) × (i among upTo n) × (f i ≡ x) → y ≡ f n → Less (key x) (key y)
+        go x y i e = rw (← i .2, e) (h (i .0) n (upTo-out n (i .0) (i .1)) (omega arith))
+
+-- the first of two numbers is below, or it is the same and the rest decides
+pub first-below : (x y : ℕ) {Q : Type 0} → x ≤ y → (x ≡ y → Q) → (x < y) ⊎ ((x ≡ y) × Q)
+first-below x y h k =
+    ⊎-elim (λ e. inr (omega arith, k (omega arith))) (λ l. inl (omega arith)) (eq-zero-or-pos (y - x))
+
+pub first-same : (x y : ℕ) {Q : Type 0} → x ≡ y → (x < y) ⊎ ((x ≡ y) × Q) → Q
+first-same x y e (inl h) = absurd (omega arith)
+first-same x y e (inr h) = h .1
 
 pub first-less : {m n : ℕ} → Less (m ∷ []) (n ∷ []) → m < n
 first-less (inl h) = h
