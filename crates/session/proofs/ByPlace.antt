@@ -66,9 +66,6 @@ begins-first b (c ∷ w) =
 
 module _ (T : Table) (bytes : List ℕ) (whole : length bytes ≡ size) (small : Bytes bytes)
     (few : countOf bytes ≤ linksCap) (links : Links T bytes) where
-  below-256 : (k : ℕ) → byte bytes k < 256
-  below-256 k = getD-byte bytes small k
-
   -- the first byte of a piece
   head-begins : (b j : ℕ) → j < countOf bytes
       → ((headAt bytes j ≡ b) × (b < 256)) ↔ Begins (b ∷ []) (pieceAt bytes j)
@@ -92,7 +89,7 @@ module _ (T : Table) (bytes : List ℕ) (whole : length bytes ≡ size) (small :
             λ h.
                 let g = begins-first b (pieceAt bytes j) .0 h .1 in
                 let e = f ∙ sym (first p) ∙ g in
-                (e, omega (arith, f, below-256 (pieceStart j))),
+                (e, omega (arith, f, getD-byte bytes small (pieceStart j))),
           )
 
   -- the pieces on the links with one foot
@@ -120,9 +117,9 @@ module _ (T : Table) (bytes : List ℕ) (whole : length bytes ≡ size) (small :
         let o = at-has bytes (on (h .0) (h .1) (linkAt bytes i)) y (h .2) in
         let e = ap (λ (e : Entry). e .link) (o .2) in
         let f = e ∙ sym (ap (λ (l : Link). on (l .here .state) (l .here .marker) (linkAt bytes i)) e) in
-        (o .0, o .1, foot-stands bytes below-256 i (o .0) .1 f, ap (λ (e : Entry). e .piece) (o .2)),
+        (o .0, o .1, foot-stands bytes small i (o .0) .1 f, ap (λ (e : Entry). e .piece) (o .2)),
     λ o.
-        let e = foot-stands bytes below-256 i (o .0) .0 (o .2) in
+        let e = foot-stands bytes small i (o .0) .0 (o .2) in
         (linkAt bytes (o .0) .here .state, linkAt bytes (o .0) .here .marker, as-at (o .0) _ y (o .1) e (o .3)),
   )
 
@@ -165,7 +162,7 @@ module _ (T : Table) (bytes : List ℕ) (whole : length bytes ≡ size) (small :
           ⊎ ((f : Entry) × (f among S bytes .entries) × (k ≡ on (k .here .state) (k .here .marker) (f .link)))
       to (inl e) = inl (foot-bottom bytes i (links .fit i l) .0 e)
       to (inr f) =
-          inr (entryAt bytes (f .0), has-at bytes (f .0) (f .1), foot-stands bytes below-256 (f .0) i .0 (sym (f .2)))
+          inr (entryAt bytes (f .0), has-at bytes (f .0) (f .1), foot-stands bytes small (f .0) i .0 (sym (f .2)))
 
       fro : (k ≡ linkOf (ground (k .here .state)))
           ⊎ ((f : Entry) × (f among S bytes .entries) × (k ≡ on (k .here .state) (k .here .marker) (f .link)))
@@ -174,7 +171,7 @@ module _ (T : Table) (bytes : List ℕ) (whole : length bytes ≡ size) (small :
       fro (inr f) =
           let o = at-has bytes (f .0 .link) (f .0 .piece) (f .1) in
           let e = f .2 ∙ ap (λ (e : Entry). on (k .here .state) (k .here .marker) (e .link)) (sym (o .2)) in
-          inr (o .0, o .1, sym (foot-stands bytes below-256 (o .0) i .1 e))
+          inr (o .0, o .1, sym (foot-stands bytes small (o .0) i .1 e))
 
 -- numbers that rise from each to the next rise
 all-rise : (K : ℕ → ℕ) (n : ℕ) → ((i : ℕ) → i + 1 < n → K i < K (i + 1)) → (i j : ℕ) → i < j → j < n → K i < K j
@@ -189,9 +186,6 @@ all-rise K n h i (suc j) l k =
     go (inr m) ih s = let t = ih m in omega arith
 
 module _ (T : Table) (bytes : List ℕ) (whole : length bytes ≡ size) (small : Bytes bytes) where
-  small-at : (k : ℕ) → byte bytes k < 256
-  small-at k = getD-byte bytes small k
-
   -- the code's rules hold of sound bytes
   module _ (s : SoundBytes T bytes) where
     abbrev kept : Kept bytes
@@ -214,7 +208,7 @@ module _ (T : Table) (bytes : List ℕ) (whole : length bytes ≡ size) (small :
                 short = kept .short i l;
               };
           rise = λ i l.
-              key-rises bytes small-at i (i + 1) (kept .below i (omega arith)) (kept .below (i + 1) l) .1
+              key-rises bytes small i (i + 1) (kept .below i (omega arith)) (kept .below (i + 1) l) .1
               (rises-out (λ e. linkKey (e .link)) (entryAt bytes) (countOf bytes) (sound .rise) i (i + 1) (omega arith) l);
         }
 
@@ -279,14 +273,14 @@ module _ (T : Table) (bytes : List ℕ) (whole : length bytes ≡ size) (small :
     rise-of =
         rises-in (λ e. linkKey (e .link)) (entryAt bytes) (countOf bytes)
         (λ i j l k.
-        key-rises bytes small-at i j (fits i (omega arith) .below) (fits j k .below) .0
+        key-rises bytes small i j (fits i (omega arith) .below) (fits j k .below) .0
         (all-rise (keyAt bytes) (countOf bytes) (p .links .rise) i j l k))
 
     bytes-of : (i : ℕ) → i < countOf bytes → Bytes (pieceAt bytes i)
     bytes-of i l = byte-getD (pieceAt bytes i) (λ k. go k (below-or k (lengthAt bytes i)))
       where
         go : (k : ℕ) → (k < lengthAt bytes i) ⊎ (lengthAt bytes i ≤ k) → getD (pieceAt bytes i) k 0 < 256
-        go k (inl h) = rw (in-piece bytes i k h) (small-at (pieceStart i + k))
+        go k (inl h) = rw (in-piece bytes i k h) (getD-byte bytes small (pieceStart i + k))
         go k (inr h) =
             let n = long bytes whole few-of i l (fits i l .short) in
             let m : length (pieceAt bytes i) ≤ k = omega arith in

@@ -24,7 +24,7 @@ use Rattle.session.specs.Bytes.{pieceAt, entryAt, sessionOf, Kept, noEnt
 use Rattle.session.specs.Bytes.{linkBytes, lengthBytes, cell, byteOf, bytesOf}
 use Rattle.session.proofs.Bytes.{none-some}
 
-getD-map-upTo : {A : Type 0} (f : ℕ → A) (n k : ℕ) (d : A) → k < n → getD (map f (upTo n)) k d ≡ f k
+pub getD-map-upTo : {A : Type 0} (f : ℕ → A) (n k : ℕ) (d : A) → k < n → getD (map f (upTo n)) k d ≡ f k
 getD-map-upTo f zero k d lt = absurd (omega arith)
 getD-map-upTo f (suc n) k d lt = rw (map-append f (upTo n) (n ∷ [])) (go (below-or k n) (λ h. getD-map-upTo f n k d h))
   where

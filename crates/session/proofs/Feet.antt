@@ -3,14 +3,15 @@ use mathlib.Core.Path.{_≡_, sym, _∙_, ap}
 use mathlib.Core.Logic.{_↔_}
 use mathlib.Core.Option.{some, none, Option·some-injective}
 use mathlib.Core.List.{List}
-use Prim.Native.Nat.{ℕ, suc, _+_, _<_}
+use Prim.Native.Nat.{ℕ, suc, _+_}
 use native.Mathlib.Omega.{arith}
 use lib.Dec.{eqb}
 use borrow.Author.Tests.{eq-eqb, ne-eqb}
+use Rattle.words.specs.Words.{Bytes}
+use Rattle.words.proofs.Lists.{getD-byte}
 use Rattle.words.proofs.Exact.{exact-as, exact-same, eqb-exact}
 use Rattle.meaning.specs.Table.{Table}
 use Rattle.meaning.specs.Trails.{Pair, ground, Link, on, linkOf}
-use Rattle.table.specs.File.{byte}
 use Rattle.session.specs.Sessions.{onBottom, standsOn}
 use Rattle.session.specs.Bytes.{linkStart, pair, belowAt, linkAt}
 use Rattle.session.specs.Calls.{seatAt, footAt, LinkFits}
@@ -52,7 +53,7 @@ module _ (bytes : List ℕ) where
     bottom-foot =
         exact-same (bottom-exact (linkAt bytes j)) (exact-as foot-bottom (eqb-exact (footAt bytes j) 0))
 
-  module _ (small : (k : ℕ) → byte bytes k < 256) where
+  module _ (small : Bytes bytes) where
     pub foot-stands : (i j : ℕ) → (footAt bytes j ≡ seatAt bytes i) ↔ Stands bytes i j
     foot-stands i j = (to, fro)
       where
@@ -67,10 +68,10 @@ module _ (bytes : List ℕ) where
                 × (belowAt bytes j .state ≡ linkAt bytes i .here .state)
                 × (belowAt bytes j .marker ≡ linkAt bytes i .here .marker)
             digits =
-                let s = small (linkStart i + 1) in
-                let m = small (linkStart i + 2) in
-                let u = small (linkStart j + 3) in
-                let w = small (linkStart j + 4) in
+                let s = getD-byte bytes small (linkStart i + 1) in
+                let m = getD-byte bytes small (linkStart i + 2) in
+                let u = getD-byte bytes small (linkStart j + 3) in
+                let w = getD-byte bytes small (linkStart j + 4) in
                 (omega arith, omega arith, omega arith)
 
         fro : Stands bytes i j → footAt bytes j ≡ seatAt bytes i

@@ -5,7 +5,9 @@ use mathlib.Core.List.{List, [], _∷_}
 use Prim.Native.Nat.{ℕ, _+_, _*_, _<_}
 use native.Mathlib.Nat.{eq-zero-or-pos}
 use native.Mathlib.Omega.{arith}
+use Rattle.words.specs.Words.{Bytes}
 use Rattle.words.specs.Order.{Less}
+use Rattle.words.proofs.Lists.{getD-byte}
 use Rattle.words.proofs.Order.{first-below}
 use Rattle.meaning.specs.Trails.{pairKey, linkKey}
 use Rattle.table.specs.File.{byte}
@@ -18,7 +20,7 @@ two-less l (inl h) = omega arith
 two-less l (inr (e, inl h)) = omega arith
 two-less l (inr (e, inr (f, h))) = absurd h
 
-module _ (bytes : List ℕ) (small : (k : ℕ) → byte bytes k < 256) where
+module _ (bytes : List ℕ) (small : Bytes bytes) where
   -- the key of the pair below, where there is one
   pair-some : (i : ℕ) → 0 < linkAt bytes i .level
       → belowAt bytes i .state ∷ belowAt bytes i .marker ∷ [] ≡ pairKey (linkAt bytes i .below)
@@ -36,7 +38,10 @@ module _ (bytes : List ℕ) (small : (k : ℕ) → byte bytes k < 256) where
       × (belowAt bytes i .marker < 256)
 
   four : (i : ℕ) → Four i
-  four i = (small (linkStart i + 1), small (linkStart i + 2), small (linkStart i + 3), small (linkStart i + 4))
+  four i = (at 1, at 2, at 3, at 4)
+    where
+      at : (k : ℕ) → byte bytes (linkStart i + k) < 256
+      at k = getD-byte bytes small (linkStart i + k)
 
   module _ (i j : ℕ) (a : NoneBelow bytes i) (b : NoneBelow bytes j) where
     abbrev Same : Type 0

@@ -13,4 +13,5 @@ pub mod Passed
 pub mod Feet
 pub mod Keys
 pub mod ByPlace
+pub mod Weighed
 mod Worked

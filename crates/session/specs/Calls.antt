@@ -1,14 +1,24 @@
 -- What the functions of this crate answer and ask, beyond the definitions of sessions and their bytes.
 use mathlib.Core.Path.{_≡_}
-use mathlib.Core.Bool.{cond}
+use mathlib.Core.Bool.{Bool, cond}
 use mathlib.Core.Logic.{_⊎_}
 use mathlib.Core.List.{List}
 use Prim.Native.Nat.{ℕ, _+_, _*_, _<_, _≤_}
 use lib.Dec.{eqb}
+use lib.ListN.{length, getD, drop}
+use Rattle.words.specs.Words.{Bytes}
 use Rattle.meaning.specs.Table.{Table}
+use Rattle.meaning.specs.Trails.{Link}
 use Rattle.table.specs.File.{byte}
-use Rattle.session.specs.Sessions.{Ranges}
-use Rattle.session.specs.Bytes.{pieceStart, pieceRoom, countOf, lengthAt, belowAt, linkAt, NoneBelow}
+use Rattle.session.specs.Sessions.{Ranges, standsOn}
+use Rattle.session.specs.Soundly.{Load, most, loads}
+use Rattle.session.specs.Bytes.{pieceStart, pieceRoom, size, countOf, lengthAt, belowAt, linkAt, NoneBelow}
+use Rattle.session.specs.Bytes.{pieceAt, sessionOf}
+
+-- what the type of a session says of its bytes
+pub record Lent (bytes : List ℕ) : Type 0 where
+  pub whole : length bytes ≡ size
+  pub small : Bytes bytes
 
 -- a link's level, state and marker as one number, the level counted from 1; and what it stands on, in the same way: a
 -- link stands on another where its foot is the other's seat, and a link at level 0 has foot 0
@@ -65,3 +75,21 @@ pub record Grouped (bytes : List ℕ) : Type 0 where
   pub bottom : Common bytes 0 → ⊥
   pub rooted : (i : ℕ) → i < countOf bytes → RootedAt bytes i
   pub carries : (i : ℕ) → i < countOf bytes → CarriesAt bytes i
+
+-- what waits from each link upward, at most, of the links from a place on; and from one link
+unfoldable pub loadsFrom : List ℕ → ℕ → List Load
+loadsFrom bytes i = loads (drop i (sessionOf bytes .entries))
+
+unfoldable pub loadAt : List ℕ → ℕ → ℕ
+loadAt bytes i = length (pieceAt bytes i) + most (standsOn (linkAt bytes i)) (loadsFrom bytes (i + 1))
+
+-- the loads of the links from a place on stand at their places
+pub record Weighed (bytes loads : List ℕ) (from : ℕ) : Type 0 where
+  pub each : (i : ℕ) → from ≤ i → i < countOf bytes → getD loads i 0 ≡ loadAt bytes i
+
+-- a test for the links with one foot; the most that waits from those at a place or after it
+abbrev pub Picks : List ℕ → ℕ → (Link → Bool) → Type 0
+Picks bytes foot test = (i : ℕ) → i < countOf bytes → test (linkAt bytes i) ≡ eqb (footAt bytes i) foot
+
+pub record Heaviest (bytes : List ℕ) (foot from most-bytes : ℕ) : Type 0 where
+  pub is : (test : Link → Bool) → Picks bytes foot test → most-bytes ≡ most test (loadsFrom bytes from)

@@ -5,7 +5,7 @@ ghost use mathlib.Core.Path.{_≡_};
 ghost use Prim.Native.Nat.{_≤_, _<_};
 ghost use Rattle.table.specs.File.{byte};
 ghost use Rattle.session.specs.Bytes.{pieceRoom, countOf, lengthAt, belowAt, linkAt, pieceAt};
-ghost use Rattle.session.specs.Calls.{seatAt, footAt, keyAt, headAt};
+ghost use Rattle.session.specs.Calls.{Lent, seatAt, footAt, keyAt, headAt};
 
 // Where links, lengths and pieces start, how many places a piece has, and how many bytes there are.
 const LINKS: usize = 2;
@@ -24,10 +24,13 @@ pub fn depth(session: &[u8; SIZE]) -> usize
     wide(session[0])
 }
 
+// It also promises what the type says of all bytes: nothing else could tell its callers.
 pub fn count(session: &[u8; SIZE]) -> usize
     ensures { λ r. ⌜ r ≡ countOf (now (session .entry)) ⌝ }
+    ensures { λ _. ⌜ Lent (now (session .entry)) ⌝ }
 {
-    wide(session[1])
+    let all = &session[..];
+    wide(all[1])
 }
 
 pub fn level(session: &[u8; SIZE], i: usize) -> usize
