@@ -209,7 +209,8 @@ module _ (T : Table) (bytes : List ℕ) (whole : length bytes ≡ size) (small :
               };
           rise = λ i l.
               key-rises bytes small i (i + 1) (kept .below i (omega arith)) (kept .below (i + 1) l) .1
-              (rises-out (λ e. linkKey (e .link)) (entryAt bytes) (countOf bytes) (sound .rise) i (i + 1) (omega arith) l);
+              (rises-out (λ e. linkKey (e .link)) (entryAt bytes) (countOf bytes) (sound .rise) i (i + 1)
+              (omega arith) l);
         }
 
     carries-of : (i : ℕ) → i < countOf bytes → CarriesAt bytes i
@@ -238,7 +239,8 @@ module _ (T : Table) (bytes : List ℕ) (whole : length bytes ≡ size) (small :
             carries = carries-of;
           };
           waiting =
-              short-longest (S bytes) (sound .rise) (sound .apart) (sound .lies) some-of (T .waitingCap) .1 (sound .short);
+              short-longest (S bytes) (sound .rise) (sound .apart) (sound .lies) some-of (T .waitingCap) .1
+              (sound .short);
           unused = kept .unused;
         }
 
@@ -258,7 +260,8 @@ module _ (T : Table) (bytes : List ℕ) (whole : length bytes ≡ size) (small :
     apart-of : Apart (S bytes)
     apart-of =
         places-all bytes
-        (λ e. e .link .level < byte bytes 0 → AllBegin (λ y. (q : ℕ) × (m : ℕ) × Has (S bytes) (on q m (e .link)) y) → ⊥)
+        (λ e.
+        e .link .level < byte bytes 0 → AllBegin (λ y. (q : ℕ) × (m : ℕ) × Has (S bytes) (on q m (e .link)) y) → ⊥)
         .1 (λ i l h. go i (p .groups .carries i l) h)
       where
         go : (i : ℕ) → CarriesAt bytes i → linkAt bytes i .level < byte bytes 0

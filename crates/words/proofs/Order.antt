@@ -186,7 +186,8 @@ module _ {A : Type 0} (key : A → Word) where
     rises-in zero h = tt
     rises-in (suc n) h =
         rw (map-append f (upTo n) (n ∷ []))
-        (rises-append (map f (upTo n)) (f n ∷ []) (rises-in n (λ i j l k. h i j l (omega arith))) (λ y m. elim m [ ], tt)
+        (rises-append (map f (upTo n)) (f n ∷ []) (rises-in n (λ i j l k. h i j l (omega arith)))
+        (λ y m. elim m [ ], tt)
         (λ x y i m. go x y (Memᴰ·of-map f (upTo n) i) (List·Memᴰ·eq-of-singleton m)))
       where
         go : (x y : A) → (i : ℕ) × (i among upTo n) × (f i ≡ x) → y ≡ f n → Less (key x) (key y)

@@ -48,7 +48,10 @@ loop-again : tie.Need-loop-again Inv-loop μ-loop
 loop-again c =
     let inv = c .before .before .before .loop .inv in (
       inv .0,
-      ⊎-elim (λ w. rw (w .4) (heads-next (inv .1) _ (w .1 .ensures) (omega (arith, w .0 .taken)) (granted (w .2 .ensures) (w .3 .left))))
+      ⊎-elim
+          (λ w.
+          let agrees = granted (w .2 .ensures) (w .3 .left) in
+          rw (w .4) (heads-next (inv .1) _ (w .1 .ensures) (omega (arith, w .0 .taken)) agrees))
           (λ w. rw (w .1) (heads-skip (inv .1) (λ e. omega (arith, w .0 .left)))) (c .if1 .came),
     )
 

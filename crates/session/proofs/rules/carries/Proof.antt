@@ -28,8 +28,8 @@ apart-requires c κs = search needs
 returns-2 : tie.Need-returns-2
 returns-2 c =
     let bytes = c .before .before .before .before .before .args .session .now in
-    let n =
-    subst (λ (foot : ℕ). Exact (Common bytes foot → ⊥) (c .apart .result)) (c .before .seat .ensures) (c .apart .ensures) in
+    let apart : ℕ → Type 0 = λ foot. Exact (Common bytes foot → ⊥) (c .apart .result) in
+    let n = subst apart (c .before .seat .ensures) (c .apart .ensures) in
     (⊎-elim (λ e. absurd (omega arith)) (n .0), λ t. inr (n .1 t))
 
 pub carries-spec : {M : Type 1} → statement M

@@ -48,7 +48,9 @@ loop-again c =
     (inv .0, inv .1, below-more _ _ (inv .2) (λ e. omega arith))
 
 returns-3 : tie.Need-returns-3 Inv-loop μ-loop
-returns-3 c = no-exact (⊎-elim (λ z. omega arith) (λ f. c .before .loop .inv .2 (f .0) (omega (arith, f .1)) (omega (arith, f .2))))
+returns-3 c =
+    let none = c .before .loop .inv .2 in
+    no-exact (⊎-elim (λ z. omega arith) (λ f. none (f .0) (omega (arith, f .1)) (omega (arith, f .2))))
 
 pub rooted-spec : {M : Type 1} → statement M
 rooted-spec =
