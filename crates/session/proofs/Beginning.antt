@@ -10,12 +10,13 @@ use Rattle.words.specs.Words.{Word}
 use Rattle.words.specs.Order.{Less, Rises}
 use Rattle.words.proofs.Common.{begins-not}
 use Rattle.words.proofs.Order.{first-less, rises-map}
-use Rattle.meaning.specs.Table.{Table, Limits, Good}
+use Rattle.meaning.specs.Table.{Table, GoodSet}
 use Rattle.meaning.specs.Trails.{Trail, ground, over, Link, linkOf, links, linkKey}
 use Rattle.meaning.specs.Living.{Place, place}
 use Rattle.meaning.specs.Answers.{linksCap, opened}
 use Rattle.session.proofs.Tests.{bottom-exact}
-use Rattle.session.specs.Sessions.{Entry, entry, Has, Waits, Ranges, Sound, lowest, onBottom, stands, beginning}
+use Rattle.session.specs.Sessions.{Entry, entry, Has, Waits, Ranges, Sound, lowest, onBottom, stands, starts}
+use Rattle.session.specs.Sessions.{beginning}
 
 -- a rising list of numbers from `k` to below `n` is no longer than what is between
 few : (k n : ℕ) (l : List ℕ) → Rises (λ q. q ∷ []) l → ((q : ℕ) → q among l → (k ≤ q) × (q < n)) → k ≤ n
@@ -28,30 +29,27 @@ few k n (q ∷ l) r h le =
       few (suc q) n l (r .1) (λ p m. (first-less (r .0 p m), h p (List·Memᴰ·tail m) .1)) (omega arith),
     )
 
--- the entry of a starting state
-abbrev starts : ℕ → Entry
-starts q = entry (linkOf (ground q)) []
-
 starts-keep : (p q : ℕ) → Less (p ∷ []) (q ∷ []) → Less (linkKey (linkOf (ground p))) (linkKey (linkOf (ground q)))
 starts-keep p q l = inr (refl, inl (first-less l))
 
 module _ (T : Table) where
   -- an entry is that of a starting state
-  started : (l : Link) (x : Word) → Has (beginning T) l x → (q : ℕ) × (q among T .starting) × (starts q ≡ entry l x)
-  started l x h = Memᴰ·of-map starts (T .starting) h
+  of-start : (l : Link) (x : Word) → Has (beginning T) l x → (q : ℕ) × (q among T .starting) × (starts q ≡ entry l x)
+  of-start l x h = Memᴰ·of-map starts (T .starting) h
 
   waits-none : (t : Trail) (w : Word) → Waits (beginning T) t w → w ≡ []
-  waits-none (ground q) w h = sym (ap (λ (e : Entry). e .piece) (started (linkOf (ground q)) w (h .spells) .2))
+  waits-none (ground q) w h = sym (ap (λ (e : Entry). e .piece) (of-start (linkOf (ground q)) w (h .spells) .2))
   waits-none (over q m t) w h = let e = h .full in absurd (omega arith)
 
   waits-start : (q : ℕ) → q among T .starting → Waits (beginning T) (ground q) []
   waits-start q m = record { full = refl; spells = Memᴰ·map starts m }
 
-  module _ (L : Limits) (good : Good L T) (room : T .states ≤ linksCap) where
+  module _ (good : GoodSet (T .states) (T .starting)) (some : (q : ℕ) × (q among T .starting))
+      (room : T .states ≤ linksCap) where
     range : (l : Link) (x : Word) (q : ℕ) → q among T .starting → starts q ≡ entry l x → Ranges T l
     range l x q m e =
         let f : linkOf (ground q) ≡ l = ap (λ (e : Entry). e .link) e in
-        rw (← f) (record { state = good .starting .below q m; marker = omega arith; zero = (λ e. refl, λ e. refl) })
+        rw (← f) (record { state = good .below q m; marker = omega arith; zero = (λ e. refl, λ e. refl) })
 
     lie : (l : Link) (x : Word) (q : ℕ) → q among T .starting → starts q ≡ entry l x
         → (t : Trail) × (w : Word) × Waits (beginning T) t w × (l among links t)
@@ -61,15 +59,15 @@ module _ (T : Table) where
     beginning-sound =
         record {
           depth = omega arith;
-          count = (at-least (T .starting) (good .some .1), at-most);
-          ranges = λ l x h. let o = started l x h in range l x (o .0) (o .1) (o .2);
-          lies = λ l x h. let o = started l x h in lie l x (o .0) (o .1) (o .2);
+          count = (at-least (T .starting) (some .1), at-most);
+          ranges = λ l x h. let o = of-start l x h in range l x (o .0) (o .1) (o .2);
+          lies = λ l x h. let o = of-start l x h in lie l x (o .0) (o .1) (o .2);
           short = λ t w h. rw (waits-none t w h) (omega arith);
-          bottom = λ a. begins-not (a .1 [] (ground (good .some .0), waits-start (good .some .0) (good .some .1)));
+          bottom = λ a. begins-not (a .1 [] (ground (some .0), waits-start (some .0) (some .1)));
           rise =
-              rises-map (λ q. q ∷ []) (λ e. linkKey (e .link)) starts starts-keep (T .starting) (good .starting .rise);
+              rises-map (λ q. q ∷ []) (λ e. linkKey (e .link)) starts starts-keep (T .starting) (good .rise);
           apart = λ l x h lt. absurd (omega arith);
-          bytes = λ l x h b m. no-bytes b x (ap (λ (e : Entry). e .piece) (started l x h .2)) m;
+          bytes = λ l x h b m. no-bytes b x (ap (λ (e : Entry). e .piece) (of-start l x h .2)) m;
         }
       where
         at-least : (l : List ℕ) {q : ℕ} → q among l → 1 ≤ length (map starts l)
@@ -78,8 +76,7 @@ module _ (T : Table) where
 
         at-most : length (map starts (T .starting)) ≤ linksCap
         at-most =
-            let S = good .starting in
-            let n = few 0 (T .states) (T .starting) (S .rise) (λ q m. (omega arith, S .below q m)) (omega arith) in
+            let n = few 0 (T .states) (T .starting) (good .rise) (λ q m. (omega arith, good .below q m)) (omega arith) in
             rw (length-map (T .starting) starts) (omega arith)
 
         no-bytes : (b : ℕ) (x : Word) → [] ≡ x → b among x → b < 256

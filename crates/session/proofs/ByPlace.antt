@@ -19,8 +19,8 @@ use Rattle.session.specs.Sessions.{Entry, entry, Session, Has, AllBegin,
 use Rattle.session.specs.Soundly.{longest}
 use Rattle.session.specs.Bytes.{pieceStart, size, countOf, lengthAt, linkAt, pieceAt, entryAt, sessionOf, Unused}
 use Rattle.session.specs.Bytes.{Kept, SoundBytes}
-use Rattle.session.specs.Calls.{seatAt, footAt, keyAt, headAt, LinkFits, Links, RootedAt, Common, CarriesAt}
-use Rattle.session.specs.Calls.{Grouped}
+use Rattle.session.specs.Numbers.{seatAt, footAt, keyAt, headAt, LinkFits, Links, RootedAt, Common, CarriesAt}
+use Rattle.session.specs.Numbers.{Grouped}
 use Rattle.session.proofs.Tests.{all-as}
 use Rattle.session.proofs.Soundly.{Rooted, lies-rooted, rooted-lies, bottom-lowest, short-longest}
 use Rattle.session.proofs.Bytes.{counted, long, in-piece}

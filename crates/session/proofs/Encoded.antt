@@ -42,7 +42,7 @@ cell-at s w things i j lt =
     let e : s + w * i + j - s ≡ i * w + j = omega (arith, mul-comm w i) in
     rw (e, digits-div i lt, digits-mod i lt) refl
 
-byte-of : (S : Session) (k : ℕ) → k < size → byte (bytesOf S) k ≡ byteOf S k
+pub byte-of : (S : Session) (k : ℕ) → k < size → byte (bytesOf S) k ≡ byteOf S k
 unfolding bytesOf
 byte-of S k lt = getD-map-upTo (byteOf S) size k 0 lt
 
@@ -50,7 +50,7 @@ small-all : (S : Session) → ((k : ℕ) → byteOf S k < 256) → Bytes (bytesO
 unfolding bytesOf
 small-all S h b m = let x = Memᴰ·of-map (byteOf S) (upTo size) m in rw (← x .2) (h (x .0))
 
-whole-of : (S : Session) → length (bytesOf S) ≡ size
+pub whole-of : (S : Session) → length (bytesOf S) ≡ size
 unfolding bytesOf
 whole-of S = length-map (upTo size) (byteOf S) ∙ length-upTo size
 
@@ -80,7 +80,7 @@ small-zeros (suc n) = small-cons (omega arith) (small-zeros n)
 cell-small : (s w : ℕ) (things : ℕ → List ℕ) (k : ℕ) → ((i : ℕ) → Bytes (things i)) → cell s w things k < 256
 cell-small s w things k h = getD-byte (things ((k - s) / w)) (h ((k - s) / w)) ((k - s) % w)
 
-getD-zeros : (n i : ℕ) → _≡_ {A = ℕ} (getD (replicate n 0) i 0) 0
+pub getD-zeros : (n i : ℕ) → _≡_ {A = ℕ} (getD (replicate n 0) i 0) 0
 getD-zeros zero i = refl
 getD-zeros (suc n) zero = refl
 getD-zeros (suc n) (suc i) = getD-zeros n i

@@ -14,7 +14,7 @@ use Rattle.meaning.specs.Table.{Table}
 use Rattle.meaning.specs.Trails.{Pair, ground, Link, on, linkOf}
 use Rattle.session.specs.Sessions.{onBottom, standsOn}
 use Rattle.session.specs.Bytes.{linkStart, pair, belowAt, linkAt}
-use Rattle.session.specs.Calls.{seatAt, footAt, LinkFits}
+use Rattle.session.specs.Numbers.{seatAt, footAt, LinkFits}
 use Rattle.session.proofs.Tests.{bottom-exact, stands-exact}
 
 abbrev Stands : List ℕ → ℕ → ℕ → Type 0

@@ -12,7 +12,7 @@ use Rattle.words.proofs.Order.{first-below}
 use Rattle.meaning.specs.Trails.{pairKey, linkKey}
 use Rattle.table.specs.File.{byte}
 use Rattle.session.specs.Bytes.{linkStart, belowAt, linkAt, NoneBelow}
-use Rattle.session.specs.Calls.{keyAt}
+use Rattle.session.specs.Numbers.{keyAt}
 use Rattle.session.proofs.Feet.{some-below, none-below}
 
 two-less : {p q r s : ℕ} → q < 256 → Less (p ∷ q ∷ []) (r ∷ s ∷ []) → p * 256 + q < r * 256 + s

@@ -14,4 +14,6 @@ pub mod Feet
 pub mod Keys
 pub mod ByPlace
 pub mod Weighed
+pub mod Started
+pub mod Began
 mod Worked

@@ -10,7 +10,7 @@ use Rattle.words.proofs.Lists.{below-or}
 use Rattle.meaning.specs.Table.{Table}
 use Rattle.table.specs.File.{byte}
 use Rattle.session.specs.Bytes.{pieceStart, countOf, lengthAt}
-use Rattle.session.specs.Calls.{footAt, keyAt, headAt, LinkFits, Links, Agrees, Common}
+use Rattle.session.specs.Numbers.{footAt, keyAt, headAt, LinkFits, Links, Agrees, Common}
 
 -- the first byte of a piece, by its length
 pub head-empty : (bytes : List ℕ) (i : ℕ) → lengthAt bytes i ≡ 0 → headAt bytes i ≡ 256

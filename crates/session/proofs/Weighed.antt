@@ -17,7 +17,7 @@ use Rattle.session.specs.Sessions.{Entry, onBottom, standsOn}
 use Rattle.session.specs.Soundly.{most, loads, longest}
 use Rattle.session.specs.Bytes.{pieceStart, pieceRoom, countOf, lengthAt, linkAt, pieceAt, entryAt, sessionOf}
 use Rattle.session.specs.Bytes.{noEntry}
-use Rattle.session.specs.Calls.{seatAt, footAt, Links, loadsFrom, loadAt, Weighed, Picks, Heaviest}
+use Rattle.session.specs.Numbers.{seatAt, footAt, Links, loadsFrom, loadAt, Weighed, Picks, Heaviest}
 use Rattle.session.proofs.Bytes.{counted}
 use Rattle.session.proofs.Encoded.{getD-map-upTo}
 use Rattle.session.proofs.Feet.{stands-foot, bottom-foot}

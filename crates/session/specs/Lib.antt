@@ -2,4 +2,5 @@
 pub mod Sessions
 pub mod Soundly
 pub mod Bytes
+pub mod Numbers
 pub mod Calls

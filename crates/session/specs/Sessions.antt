@@ -98,6 +98,12 @@ trails S = trailsAt (S .entries) (S .depth)
 abbrev pub stands : Session → Moment
 stands S = record { depth = S .depth; waiting = trails S }
 
--- "Beginning gives empty pieces"
+-- "Beginning gives empty pieces": an entry for each state of a list, and of a table those for its starting states
+abbrev pub starts : ℕ → Entry
+starts q = entry (linkOf (ground q)) []
+
+abbrev pub started : List ℕ → Session
+started l = record { depth = 0; entries = map starts l }
+
 abbrev pub beginning : Table → Session
-beginning T = record { depth = 0; entries = map (λ q. entry (linkOf (ground q)) []) (T .starting) }
+beginning T = started (T .starting)

@@ -1,4 +1,8 @@
 // Sessions: what their bytes stand for, and which are sound for a table.
+mod fresh;
 pub mod places;
 mod rules;
 mod weigh;
+
+pub use fresh::Opening;
+pub use fresh::begin;

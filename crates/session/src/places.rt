@@ -2,10 +2,13 @@
 use table::load_two;
 use words::wide;
 ghost use mathlib.Core.Path.{_≡_};
-ghost use Prim.Native.Nat.{_≤_, _<_};
+ghost use Prim.Native.Nat.{_+_, _≤_, _<_};
+ghost use mathlib.Core.List.{[]};
+ghost use lib.ListN.{set};
 ghost use Rattle.table.specs.File.{byte};
-ghost use Rattle.session.specs.Bytes.{pieceRoom, countOf, lengthAt, belowAt, linkAt, pieceAt};
-ghost use Rattle.session.specs.Calls.{Lent, seatAt, footAt, keyAt, headAt};
+ghost use Rattle.session.specs.Sessions.{started};
+ghost use Rattle.session.specs.Bytes.{linkStart, pieceRoom, countOf, lengthAt, belowAt, linkAt, pieceAt, bytesOf};
+ghost use Rattle.session.specs.Numbers.{Lent, seatAt, footAt, keyAt, headAt};
 
 // Where links, lengths and pieces start, how many places a piece has, and how many bytes there are.
 const LINKS: usize = 2;
@@ -120,4 +123,20 @@ pub fn head(session: &[u8; SIZE], i: usize) -> usize
         return 256;
     }
     wide(session[PIECES + ROOM * i])
+}
+
+// All places to 0: no link is there.
+pub fn clear(session: &mut [u8; SIZE])
+    ensures { λ _. ⌜ now (session .exit) ≡ bytesOf (started []) ⌝ }
+{
+    *session = [0u8; SIZE];
+}
+
+// One link more, at level 0 with this state. What else a link and its piece have is 0 there, and is not written.
+pub fn add_start(session: &mut [u8; SIZE], i: usize, state: u8)
+    requires { ⌜ i < 64 ⌝ }
+    ensures { λ _. ⌜ now (session .exit) ≡ set (set (now (session .entry)) 1 (i + 1)) (linkStart i + 1) state ⌝ }
+{
+    session[1] = (i + 1) as u8;
+    session[LINKS + 5 * i + 1] = state;
 }

@@ -8,7 +8,7 @@ ghost use Rattle.words.specs.Lists.{Exact};
 ghost use Rattle.table.specs.File.{tableOf};
 ghost use Rattle.table.specs.Good.{first, Good};
 ghost use Rattle.session.specs.Bytes.{countOf};
-ghost use Rattle.session.specs.Calls.{LinkFits, Links, RootedAt, Agrees, Common, CarriesAt, Grouped};
+ghost use Rattle.session.specs.Numbers.{LinkFits, Links, RootedAt, Agrees, Common, CarriesAt, Grouped};
 
 // "marker 0 exactly at level 0"
 fn mark_fits(level: usize, marker: usize) -> bool

@@ -9,7 +9,7 @@ ghost use Prim.Native.Nat.{_+_, _<_, _≤_, max};
 ghost use Rattle.meaning.specs.Table.{Table};
 ghost use Rattle.session.specs.Soundly.{longest as longestOf};
 ghost use Rattle.session.specs.Bytes.{countOf, sessionOf};
-ghost use Rattle.session.specs.Calls.{Lent, Links, Weighed, Heaviest};
+ghost use Rattle.session.specs.Numbers.{Lent, Links, Weighed, Heaviest};
 
 fn larger(a: usize, b: usize) -> usize
     ensures { λ r. ⌜ r ≡ max a b ⌝ }

@@ -4,9 +4,10 @@ use mathlib.Core.List.{List, [], _∷_, map, map-append, Memᴰ·of-map, List·M
 use mathlib.Core.List.{List·Memᴰ·eq-of-singleton}
 use mathlib.Core.Logic.{_⊎_, inl, inr}
 use Prim.Native.Nat.{ℕ, zero, suc, _+_, _-_, _^_, _<_, _≤_}
-use native.Mathlib.Nat.{eq-zero-or-pos}
+use native.Mathlib.Nat.{eq-zero-or-pos, lt-of-lt-of-le}
 use native.Mathlib.Numerals.{add-one}
 use native.Mathlib.Omega.{arith}
+use lib.Pow.{pow-mono}
 use lib.ListN.{length-map, length-take, take, drop}
 use borrow.Author.Tests.{le-ltb}
 use Rattle.words.specs.Lists.{_among_, upTo}
@@ -17,7 +18,7 @@ use Rattle.words.proofs.Order.{less-trans, rises-append}
 use Rattle.meaning.specs.Table.{rowKey, Row, GoodSet, GoodRow, Good as GoodTable}
 use Rattle.table.specs.Sets.{members}
 use Rattle.table.specs.File.{byte, two, eight, rowCount, rowStart, wordsStart, rowAt, tableOf}
-use Rattle.table.specs.Good.{Edition, Good, Rows}
+use Rattle.table.specs.Good.{Edition, first, Good, Rows}
 use Rattle.table.proofs.Members.{members-rise, members-below, members-some}
 
 -- what stands in a part of a list stands in it
@@ -109,3 +110,17 @@ module _ {E : Edition} (wide : 255 ≤ E .limits .word) (file : List ℕ) (bytes
 pub rows-of : (file : List ℕ) → tableOf file .rows ≡ map (rowAt file) (upTo (rowCount file))
 unfolding tableOf
 rows-of file = refl
+
+-- of its starting states, what needs no byte to be one: they are below 64, and so there are
+pub starting-of : (file : List ℕ) → Good first file
+    → GoodSet (tableOf file .states) (tableOf file .starting)
+    × ((q : ℕ) × (q among tableOf file .starting))
+    × (tableOf file .states ≤ 64)
+unfolding tableOf
+starting-of file g =
+    let s = g .sets in
+    let room = g .head .states .1 in (
+      good-set (byte file 1) (eight file 284) (s .starting),
+      members-some (eight file 284) (s .some) (lt-of-lt-of-le (s .starting) (pow-mono room)),
+      room,
+    )

@@ -5,7 +5,7 @@ use native.Mathlib.Omega.{arith}
 use borrow.Author.Count.{below-more}
 use Rattle.words.proofs.Exact.{yes-exact, no-exact, denied, granted}
 use Rattle.session.specs.Bytes.{countOf}
-use Rattle.session.specs.Calls.{RootedAt, CarriesAt}
+use Rattle.session.specs.Numbers.{RootedAt, CarriesAt}
 use borrow.Author.Needs.{needs}
 use Rattle.session.proofs.rules.groups.Statement.{statement}
 use Rattle.session.proofs.rules.groups.Tie as tie

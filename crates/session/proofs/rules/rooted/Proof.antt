@@ -6,7 +6,7 @@ use native.Mathlib.Omega.{arith}
 use borrow.Author.Count.{below-more}
 use Rattle.words.proofs.Exact.{yes-exact, no-exact}
 use Rattle.session.specs.Bytes.{countOf}
-use Rattle.session.specs.Calls.{seatAt, footAt}
+use Rattle.session.specs.Numbers.{seatAt, footAt}
 use borrow.Author.Needs.{needs}
 use Rattle.session.proofs.rules.rooted.Statement.{statement}
 use Rattle.session.proofs.rules.rooted.Tie as tie

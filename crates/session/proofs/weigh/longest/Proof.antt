@@ -2,7 +2,7 @@
 use Prim.Native.Nat.{_≤_}
 use native.Mathlib.Omega.{arith}
 use Rattle.session.specs.Bytes.{countOf}
-use Rattle.session.specs.Calls.{Weighed}
+use Rattle.session.specs.Numbers.{Weighed}
 use Rattle.session.proofs.Weighed.{heaviest-longest, weighed-none, weighed-on}
 use borrow.Author.Needs.{needs}
 use Rattle.session.proofs.weigh.longest.Statement.{statement}

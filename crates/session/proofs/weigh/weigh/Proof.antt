@@ -3,7 +3,7 @@ use mathlib.Core.Path.{_≡_}
 use Prim.Native.Nat.{_+_}
 use native.Mathlib.Omega.{arith}
 use lib.ListN.{length}
-use Rattle.session.specs.Calls.{loadAt}
+use Rattle.session.specs.Numbers.{loadAt}
 use Rattle.session.proofs.Weighed.{loads-small, heaviest-load, weighed-next}
 use borrow.Author.Needs.{needs}
 use Rattle.session.proofs.weigh.weigh.Statement.{statement}

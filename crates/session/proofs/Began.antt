@@ -1,0 +1,121 @@
+-- What `begin` made: of a good file the sound session that stands for the runs over the empty message, and nothing else
+-- meets its contract. Assumes nothing.
+use mathlib.Core.Path.{_≡_, refl, sym, _∙_, ap, subst}
+use mathlib.Core.Logic.{_↔_}
+use mathlib.Core.Option.{none}
+use mathlib.Core.List.{List, [], map, Memᴰ·of-map}
+use Prim.Native.Nat.{ℕ, _<_, _≤_}
+use native.Mathlib.Omega.{arith}
+use lib.ListN.{length, length-map}
+use Rattle.words.specs.Lists.{_among_}
+use Rattle.words.specs.Words.{Word, Bytes}
+use Rattle.meaning.specs.Table.{Table}
+use Rattle.meaning.specs.Trails.{Trail}
+use Rattle.meaning.specs.Living.{place, living}
+use Rattle.meaning.specs.Answers.{linksCap, Moment, opened}
+use Rattle.meaning.proofs.Living.{Reaches, living-exact, begun-count as living-count}
+use Rattle.table.specs.File.{tableOf}
+use Rattle.table.specs.Good.{first, Good}
+use Rattle.table.proofs.Stands.{starting-of}
+use Rattle.session.specs.Sessions.{Entry, Sound, trails, stands, starts, started, beginning}
+use Rattle.session.specs.Bytes.{pieceRoom, sessionOf, linkBytes, bytesOf, SoundBytes}
+use Rattle.session.specs.Calls.{numberOf, statesOf, Begun}
+use Rattle.session.specs.declared.fresh.Opening.{Opening}
+use Rattle.session.specs.declared.fresh.Opening.the-variants.{Taken, BadTable}
+use Rattle.session.proofs.Beginning.{beginning-sound, beginning-stands}
+use Rattle.session.proofs.Encoded.{Fits, small-nil, small-cons, small-zeros, session-back, kept-of}
+use Rattle.session.proofs.RoundTrip.{bytes-one}
+
+-- links at level 0 fit, where their states are bytes
+started-fits : (l : List ℕ) → length l ≤ linksCap → ((q : ℕ) → q among l → q < 256) → Fits (started l)
+started-fits l room small =
+    record {
+      depth = omega arith;
+      count = rw (length-map l starts) room;
+      bytes =
+          all (λ e. Bytes (linkBytes (e .link)))
+          (λ q m. small-cons (omega arith) (small-cons (small q m) (small-zeros 3)));
+      below = all (λ e. (e .link .level ≡ 0) ↔ (e .link .below ≡ none)) (λ q m. (λ z. refl, λ z. refl));
+      short = all (λ e. length (e .piece) ≤ pieceRoom) (λ q m. omega arith);
+      piece = all (λ e. Bytes (e .piece)) (λ q m. small-nil);
+    }
+  where
+    all : (P : Entry → Type 0) → ((q : ℕ) → q among l → P (starts q)) → (e : Entry) → e among map starts l → P e
+    all P h e m = let x = Memᴰ·of-map starts l m in subst P (x .2) (h (x .0) (x .1))
+
+-- of a good file
+module _ (file : List ℕ) (good : Good first file) where
+  abbrev T : Table
+  T = tableOf file
+
+  -- the session of its table, and that session's bytes, which are sound for it and stand for the runs
+  sound-beginning : Sound T (beginning T)
+  sound-beginning = let s = starting-of file good in beginning-sound T (s .0) (s .1) (s .2)
+
+  beginning-fits : Fits (beginning T)
+  beginning-fits =
+      let s = starting-of file good in
+      let few = rw length-map at (sound-beginning .count .1) in
+      started-fits (T .starting) few (λ q m. omega (arith, s .0 .below q m, s .2))
+
+  decoded-beginning : sessionOf (bytesOf (beginning T)) ≡ beginning T
+  decoded-beginning = session-back (beginning T) beginning-fits
+
+  beginning-bytes : SoundBytes T (bytesOf (beginning T))
+  beginning-bytes =
+      record { kept = kept-of (beginning T) beginning-fits; sound = rw decoded-beginning sound-beginning }
+
+  beginning-is : stands (sessionOf (bytesOf (beginning T))) ≡ opened T
+  beginning-is = ap stands decoded-beginning ∙ beginning-stands T
+
+  pub begun-taken : {n : ℕ} {l session session′ : List ℕ} → l ≡ T .starting → session′ ≡ bytesOf (started l)
+      → n ≡ length l → Begun file session (Taken n) session′
+  begun-taken {session′ = session′} e f m =
+      let is : session′ ≡ bytesOf (beginning T) = f ∙ ap (λ (l : List ℕ). bytesOf (started l)) e in
+      record {
+        good = (λ z. good, λ z. refl);
+        bad = (λ z. absurd (omega arith), λ z. absurd (z good));
+        states = λ z. m ∙ ap length e;
+        none = λ z. absurd (omega arith);
+        sound = λ z. rw is beginning-bytes;
+        stands = λ z. ap (λ (B : List ℕ). stands (sessionOf B)) is ∙ beginning-is;
+        kept = λ z. absurd (omega arith);
+      }
+
+pub begun-bad : {session : List ℕ} (file : List ℕ) → (Good first file → ⊥) → Begun file session BadTable session
+begun-bad file bad =
+    record {
+      good = (λ z. absurd (omega arith), λ z. absurd (bad z));
+      bad = (λ z. bad, λ z. refl);
+      states = λ z. absurd (omega arith);
+      none = λ z. refl;
+      sound = λ z. absurd (omega arith);
+      stands = λ z. absurd (omega arith);
+      kept = λ z. refl;
+    }
+
+-- two answers that meet the contract on one file and session are the same, and so are the sessions they leave
+pub begun-unique : (file session : List ℕ) (r q : Opening) (session′ session″ : List ℕ)
+    → Begun file session r session′ → Begun file session q session″ → (r ≡ q) × (session′ ≡ session″)
+begun-unique file session (Taken n) (Taken m) B C b c =
+    let is : trails (sessionOf B) ≡ trails (sessionOf C) =
+    ap (λ (m : Moment). m .waiting) (b .stands refl ∙ sym (c .stands refl)) in (
+      ap Taken (b .states refl ∙ sym (c .states refl)),
+      bytes-one (tableOf file) B C (b .sound refl) (c .sound refl) (λ p. rw is (λ m. m, λ m. m)),
+    )
+begun-unique file session (Taken n) BadTable B C b c = absurd (c .bad .0 refl (b .good .0 refl))
+begun-unique file session BadTable (Taken m) B C b c = absurd (b .bad .0 refl (c .good .0 refl))
+begun-unique file session BadTable BadTable B C b c = (refl, b .kept refl ∙ sym (c .kept refl))
+
+-- in words of runs: what waits in the session are the runs over the empty message, each trail with the output it has
+pub begun-runs : {file session session′ : List ℕ} {r : Opening} → Begun file session r session′ → numberOf r ≡ 0
+    → (t : Trail) (o : Word) → (place t o among trails (sessionOf session′)) ↔ Reaches (tableOf file) [] t o
+begun-runs {file} {session′ = session′} b z t o =
+    let is : trails (sessionOf session′) ≡ living (tableOf file) [] = ap (λ (m : Moment). m .waiting) (b .stands z) in
+    rw is (living-exact (tableOf file) [] t o)
+
+-- and there are as many as begin reports
+pub begun-count : {file session session′ : List ℕ} {r : Opening} → Begun file session r session′ → numberOf r ≡ 0
+    → statesOf r ≡ length (trails (sessionOf session′))
+begun-count {file} b z =
+    b .states z ∙ living-count (tableOf file) ∙ sym (ap (λ (m : Moment). length (m .waiting)) (b .stands z))

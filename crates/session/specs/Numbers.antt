@@ -1,0 +1,95 @@
+-- Links as numbers, and what the functions inside ask and answer: a reader of the public calls can pass over it.
+use mathlib.Core.Path.{_≡_}
+use mathlib.Core.Bool.{Bool, cond}
+use mathlib.Core.Logic.{_⊎_}
+use mathlib.Core.List.{List}
+use Prim.Native.Nat.{ℕ, _+_, _*_, _<_, _≤_}
+use lib.Dec.{eqb}
+use lib.ListN.{length, getD, drop}
+use Rattle.words.specs.Words.{Bytes}
+use Rattle.meaning.specs.Table.{Table}
+use Rattle.meaning.specs.Trails.{Link}
+use Rattle.table.specs.File.{byte}
+use Rattle.session.specs.Sessions.{Ranges, standsOn}
+use Rattle.session.specs.Soundly.{Load, most, loads}
+use Rattle.session.specs.Bytes.{pieceStart, pieceRoom, size, countOf, lengthAt, belowAt, linkAt, NoneBelow}
+use Rattle.session.specs.Bytes.{pieceAt, sessionOf}
+
+-- what the type of a session says of its bytes
+pub record Lent (bytes : List ℕ) : Type 0 where
+  pub whole : length bytes ≡ size
+  pub small : Bytes bytes
+
+-- a link's level, state and marker as one number, the level counted from 1; and what it stands on, in the same way: a
+-- link stands on another where its foot is the other's seat, and a link at level 0 has foot 0
+abbrev pub seatAt : List ℕ → ℕ → ℕ
+seatAt bytes i =
+    let l = linkAt bytes i in
+    ((l .level + 1) * 256 + l .here .state) * 256 + l .here .marker
+
+abbrev pub footAt : List ℕ → ℕ → ℕ
+footAt bytes i = (linkAt bytes i .level * 256 + belowAt bytes i .state) * 256 + belowAt bytes i .marker
+
+-- its five bytes as one number, the level first
+abbrev pub keyAt : List ℕ → ℕ → ℕ
+keyAt bytes i =
+    let l = linkAt bytes i in
+    let b = belowAt bytes i in
+    (((l .level * 256 + l .here .state) * 256 + l .here .marker) * 256 + b .state) * 256 + b .marker
+
+-- the first byte of its piece; 256 where that is empty
+abbrev pub headAt : List ℕ → ℕ → ℕ
+headAt bytes i = cond (eqb (lengthAt bytes i) 0) 256 (byte bytes (pieceStart i))
+
+-- what a link must be, whatever the others are
+pub record LinkFits (T : Table) (bytes : List ℕ) (i : ℕ) : Type 0 where
+  pub level : linkAt bytes i .level ≤ byte bytes 0
+  pub ranges : Ranges T (linkAt bytes i)
+  pub below : NoneBelow bytes i
+  pub short : lengthAt bytes i ≤ pieceRoom
+
+-- all links are that, and rise
+pub record Links (T : Table) (bytes : List ℕ) : Type 0 where
+  pub fit : (i : ℕ) → i < countOf bytes → LinkFits T bytes i
+  pub rise : (i : ℕ) → i + 1 < countOf bytes → keyAt bytes i < keyAt bytes (i + 1)
+
+-- a link is at level 0, or stands on one that is there
+abbrev pub RootedAt : List ℕ → ℕ → Type 0
+RootedAt bytes i = (footAt bytes i ≡ 0) ⊎ ((j : ℕ) × (j < countOf bytes) × (seatAt bytes j ≡ footAt bytes i))
+
+-- the first byte of a piece is a byte, and that of the pieces before it, where there are any
+abbrev pub Agrees : ℕ → ℕ → Type 0
+Agrees first head = (head < 256) × (first < 256 → head ≡ first)
+
+-- the pieces on the links with one foot have a common first byte
+abbrev pub Common : List ℕ → ℕ → Type 0
+Common bytes foot =
+    (b : ℕ) × ((j : ℕ) → j < countOf bytes → footAt bytes j ≡ foot → (headAt bytes j ≡ b) × (b < 256))
+
+-- a link below the depth carries others, whose pieces have none
+abbrev pub CarriesAt : List ℕ → ℕ → Type 0
+CarriesAt bytes i = (linkAt bytes i .level ≡ byte bytes 0) ⊎ (Common bytes (seatAt bytes i) → ⊥)
+
+-- "every link lies on a full trail", and no pieces on one pair, nor those at level 0, have a common first byte
+pub record Grouped (bytes : List ℕ) : Type 0 where
+  pub bottom : Common bytes 0 → ⊥
+  pub rooted : (i : ℕ) → i < countOf bytes → RootedAt bytes i
+  pub carries : (i : ℕ) → i < countOf bytes → CarriesAt bytes i
+
+-- what waits from each link upward, at most, of the links from a place on; and from one link
+unfoldable pub loadsFrom : List ℕ → ℕ → List Load
+loadsFrom bytes i = loads (drop i (sessionOf bytes .entries))
+
+unfoldable pub loadAt : List ℕ → ℕ → ℕ
+loadAt bytes i = length (pieceAt bytes i) + most (standsOn (linkAt bytes i)) (loadsFrom bytes (i + 1))
+
+-- the loads of the links from a place on stand at their places
+pub record Weighed (bytes loads : List ℕ) (from : ℕ) : Type 0 where
+  pub each : (i : ℕ) → from ≤ i → i < countOf bytes → getD loads i 0 ≡ loadAt bytes i
+
+-- a test for the links with one foot; the most that waits from those at a place or after it
+abbrev pub Picks : List ℕ → ℕ → (Link → Bool) → Type 0
+Picks bytes foot test = (i : ℕ) → i < countOf bytes → test (linkAt bytes i) ≡ eqb (footAt bytes i) foot
+
+pub record Heaviest (bytes : List ℕ) (foot from most-bytes : ℕ) : Type 0 where
+  pub is : (test : Link → Bool) → Picks bytes foot test → most-bytes ≡ most test (loadsFrom bytes from)

@@ -1,0 +1,47 @@
+// Beginning: a session for a table, at depth 0 in each starting state, with nothing waiting.
+use crate::places::SIZE;
+use crate::places::add_start;
+use crate::places::clear;
+use table::sets;
+ghost use mathlib.Core.Path.{_≡_};
+ghost use Rattle.table.specs.Sets.{members};
+ghost use Rattle.session.specs.Sessions.{started};
+ghost use Rattle.session.specs.Bytes.{bytesOf};
+ghost use Rattle.session.specs.Calls.{Begun};
+
+// What `begin` answers.
+pub enum Opening {
+    Taken { states: u32 },
+    BadTable,
+}
+
+// Makes a fresh session for a good table, and says how many starting states there are.
+pub fn begin(file: &[u8], session: &mut [u8; SIZE]) -> Opening
+    ensures { λ r. ⌜ Begun (now (file .entry)) (now (session .entry)) r (now (session .exit)) ⌝ }
+{
+    match table::check(file) {
+        table::Verdict::Taken => {
+            let set = table::starting_set(file);
+            start(session, set);
+            Opening::Taken {
+                states: sets::size(set),
+            }
+        }
+        table::Verdict::BadTable => Opening::BadTable,
+    }
+}
+
+// A session with a link for each state of a set, in rising order.
+fn start(session: &mut [u8; SIZE], set: u64)
+    ensures { λ _. ⌜ now (session .exit) ≡ bytesOf (started (members set)) ⌝ }
+{
+    clear(session);
+    let mut rest = set;
+    let mut i = 0;
+    while rest != 0 {
+        let state = sets::lowest(rest);
+        rest = sets::without_lowest(rest);
+        add_start(session, i, state as u8);
+        i += 1;
+    }
+}
