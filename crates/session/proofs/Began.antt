@@ -16,6 +16,7 @@ use Rattle.meaning.specs.Answers.{linksCap, Moment, opened}
 use Rattle.meaning.proofs.Living.{Reaches, living-exact, begun-count as living-count}
 use Rattle.table.specs.File.{tableOf}
 use Rattle.table.specs.Good.{first, Good}
+use Rattle.table.proofs.Told.{told-taken, told-bad}
 use Rattle.table.proofs.Stands.{starting-of}
 use Rattle.session.specs.Sessions.{Entry, Sound, trails, stands, starts, started, beginning}
 use Rattle.session.specs.Bytes.{pieceRoom, sessionOf, linkBytes, bytesOf, SoundBytes}
@@ -73,8 +74,8 @@ module _ (file : List ℕ) (good : Good first file) where
   begun-taken {session′ = session′} e f m =
       let is : session′ ≡ bytesOf (beginning T) = f ∙ ap (λ (l : List ℕ). bytesOf (started l)) e in
       record {
-        good = (λ z. good, λ z. refl);
-        bad = (λ z. absurd (omega arith), λ z. absurd (z good));
+        good = told-taken file good .good;
+        bad = told-taken file good .bad;
         states = λ z. m ∙ ap length e;
         none = λ z. absurd (omega arith);
         sound = λ z. rw is beginning-bytes;
@@ -85,8 +86,8 @@ module _ (file : List ℕ) (good : Good first file) where
 pub begun-bad : {session : List ℕ} (file : List ℕ) → (Good first file → ⊥) → Begun file session BadTable session
 begun-bad file bad =
     record {
-      good = (λ z. absurd (omega arith), λ z. absurd (bad z));
-      bad = (λ z. bad, λ z. refl);
+      good = told-bad file bad .good;
+      bad = told-bad file bad .bad;
       states = λ z. absurd (omega arith);
       none = λ z. refl;
       sound = λ z. absurd (omega arith);

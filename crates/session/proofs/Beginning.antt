@@ -76,7 +76,8 @@ module _ (T : Table) where
 
         at-most : length (map starts (T .starting)) ≤ linksCap
         at-most =
-            let n = few 0 (T .states) (T .starting) (good .rise) (λ q m. (omega arith, good .below q m)) (omega arith) in
+            let below = good .below in
+            let n = few 0 (T .states) (T .starting) (good .rise) (λ q m. (omega arith, below q m)) (omega arith) in
             rw (length-map (T .starting) starts) (omega arith)
 
         no-bytes : (b : ℕ) (x : Word) → [] ≡ x → b among x → b < 256

@@ -1,14 +1,14 @@
--- The bytes of a session that begins: zeros where no state is there, and two bytes more for each state. Assumes nothing.
+-- The bytes of a session that begins: zeros, and then two bytes set for each state. Assumes nothing.
 use mathlib.Core.Path.{_≡_, refl, sym, _∙_, ap}
 use mathlib.Core.Logic.{_⊎_, inl, inr, ⊎-elim}
 use mathlib.Core.List.{List, [], _∷_, _++_}
 use Prim.Native.Nat.{ℕ, zero, suc, _+_, _-_, _/_, _%_, _<_, _≤_}
 use native.Mathlib.Omega.{arith}
 use native.Mathlib.Nat.{eq-zero-or-pos}
-use borrow.Author.Tests.{lt-ltb, le-ltb}
 use native.Mathlib.Numerals.{add-one}
-use lib.ListN.{length, replicate, getD, set, take, length-map, length-append, length-replicate, length-set, List·getD-map}
-use lib.ListN.{List·getD-append, List·getD-eq-default, getD-replicate}
+use borrow.Author.Tests.{lt-ltb, le-ltb}
+use lib.ListN.{length, replicate, getD, set, take, length-map, length-append, length-replicate, length-set}
+use lib.ListN.{List·getD-map, List·getD-append, List·getD-eq-default, getD-replicate}
 use lib.Seq.{ext-getD, getD-set-same, getD-set-other, getD-at, length-take-le, take-suc, take-all}
 use Rattle.words.proofs.Lists.{below-or}
 use Rattle.meaning.specs.Answers.{linksCap}
@@ -33,6 +33,8 @@ entry-of l i = List·getD-map starts l i 0
 abbrev five : ℕ → List ℕ
 five q = linkBytes (starts q .link)
 
+-- what stands at a place: the depth and the count, a byte of a link, or 0
+
 head-of : (l : List ℕ) (k : ℕ) → k < 2 → byteOf (started l) k ≡ getD (0 ∷ length l ∷ []) k 0
 head-of l k lt = rw (lt-ltb k 2 lt, length-map l starts)
 
@@ -51,7 +53,7 @@ rest-of l k le = go (below-or k 450)
         rw (le-ltb k 2 (omega arith), le-ltb k 322 le, le-ltb k 450 ge, entry-of l ((k - 450) / 512))
         (getD-zeros 0 ((k - 450) % 512))
 
--- no state
+-- where no state is there, all is 0
 pub cleared : (n : ℕ) → n ≡ size → replicate n 0 ≡ bytesOf (started [])
 cleared n e =
     let long = length-replicate {A = ℕ} n 0 in
@@ -126,11 +128,9 @@ module _ (l : List ℕ) (q : ℕ) where
         there =
             let d : (at - 2) / 5 ≡ length l = omega arith in
             let m : (at - 2) % 5 ≡ 1 = omega arith in
-            link-of more at (omega arith) (omega arith)
-            ∙ rw (d, m) (getD-at l q [] 0 (length l) refl)
+            link-of more at (omega arith) (omega arith) ∙ rw (d, m) (getD-at l q [] 0 (length l) refl)
 
-    other-byte : (k : ℕ) → k < size → (k ≡ 1 → ⊥) → (k ≡ at → ⊥)
-        → getD C k 0 ≡ byteOf (started more) k
+    other-byte : (k : ℕ) → k < size → (k ≡ 1 → ⊥) → (k ≡ at → ⊥) → getD C k 0 ≡ byteOf (started more) k
     other-byte k lt a b =
         getD-set-other B at k q 0 b
         ∙ getD-set-other (bytesOf (started l)) 1 k (length l + 1) 0 a
@@ -144,7 +144,9 @@ module _ (l : List ℕ) (q : ℕ) where
         (λ k lt. let h : k < size = omega (arith, long) in go k h ∙ sym (byte-of (started more) k h))
       where
         go : (k : ℕ) → k < size → getD C k 0 ≡ byteOf (started more) k
-        go k lt = ⊎-elim (λ e. rw e count-byte) (λ a. ⊎-elim (λ e. rw e state-byte) (λ b. other-byte k lt a b) (same-or k at)) (same-or k 1)
+        go k lt =
+            ⊎-elim (λ e. rw e count-byte)
+            (λ a. ⊎-elim (λ e. rw e state-byte) (λ b. other-byte k lt a b) (same-or k at)) (same-or k 1)
 
 -- a visit of the states of a set: those behind have their links
 pub record Starting (states i rest : ℕ) (session : List ℕ) : Type 0 where

@@ -23,9 +23,8 @@ pub fn begin(file: &[u8], session: &mut [u8; SIZE]) -> Opening
         table::Verdict::Taken => {
             let set = table::starting_set(file);
             start(session, set);
-            Opening::Taken {
-                states: sets::size(set),
-            }
+            let states = sets::size(set);
+            Opening::Taken { states }
         }
         table::Verdict::BadTable => Opening::BadTable,
     }

@@ -41,7 +41,7 @@ cast-add-start : tie.Need-cast-add-start Inv-loop μ-loop
 cast-add-start c = omega (arith, c .before .before .lowest .ensures .1 (omega arith) .0)
 
 add-start-requires : tie.Need-add-start-requires Inv-loop μ-loop
-add-start-requires c κs = room (c .before)
+add-start-requires c κs = omega (arith, room (c .before))
 
 add-i : tie.Need-add-i Inv-loop μ-loop
 add-i c = omega (arith, room (c .before .before))
