@@ -1,0 +1,2 @@
+-- What follows of the definitions in `specs/`, one family of facts a file, each building on those before it.
+mod Worked
