@@ -1,6 +1,7 @@
 // The parts of a rule file, in file order: each says whether the file keeps that part's rules.
 use crate::load::load_eight;
 use crate::load::load_two;
+use words::together;
 use words::wide;
 ghost use mathlib.Core.Path.{_≡_};
 ghost use Prim.Native.Nat.{_+_, _^_, _≤_, _<_};
@@ -92,20 +93,12 @@ pub fn contents(file: &[u8]) -> bool
     true
 }
 
-// One pass that takes all classes together and ends with one test: the loop has no way out early, so that it runs on
-// many bytes at once.
+// No class has a bit above the lowest two exactly when all together have none.
 pub fn classes(file: &[u8]) -> bool
     requires { ⌜ 300 ≤ length (now file) ⌝ }
     ensures { λ r. ⌜ Exact (Classes (now (file .entry))) r ⌝ }
 {
-    let body = &file[28..284];
-    let mut all: u8 = 0;
-    let mut i = 0;
-    while i < body.len() {
-        all = all | body[i];
-        i += 1;
-    }
-    all < 4
+    together(&file[28..284]) < 4
 }
 
 // Whether all members of a set are below `states`.

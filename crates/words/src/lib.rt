@@ -1,7 +1,10 @@
 // Byte strings: the longest common beginning, byte order, rising lists, with the laws that the crates above use.
 // Each function comes with the crate that needs it.
+mod all_bytes;
 mod byte_order;
 
+pub use all_bytes::together;
+pub use all_bytes::zeros;
 pub use byte_order::Order;
 pub use byte_order::compare;
 ghost use mathlib.Core.Path.{_≡_};
