@@ -16,4 +16,5 @@ pub mod ByPlace
 pub mod Weighed
 pub mod Started
 pub mod Began
+pub mod Clear
 mod Worked

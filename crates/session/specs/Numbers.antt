@@ -3,17 +3,18 @@ use mathlib.Core.Path.{_≡_}
 use mathlib.Core.Bool.{Bool, cond}
 use mathlib.Core.Logic.{_⊎_}
 use mathlib.Core.List.{List}
-use Prim.Native.Nat.{ℕ, _+_, _*_, _<_, _≤_}
+use Prim.Native.Nat.{ℕ, _+_, _-_, _*_, _<_, _≤_}
 use lib.Dec.{eqb}
-use lib.ListN.{length, getD, drop}
+use lib.ListN.{length, getD, take, drop}
 use Rattle.words.specs.Words.{Bytes}
 use Rattle.meaning.specs.Table.{Table}
 use Rattle.meaning.specs.Trails.{Link}
+use Rattle.meaning.specs.Answers.{linksCap}
 use Rattle.table.specs.File.{byte}
 use Rattle.session.specs.Sessions.{Ranges, standsOn}
 use Rattle.session.specs.Soundly.{Load, most, loads}
-use Rattle.session.specs.Bytes.{pieceStart, pieceRoom, size, countOf, lengthAt, belowAt, linkAt, NoneBelow}
-use Rattle.session.specs.Bytes.{pieceAt, sessionOf}
+use Rattle.session.specs.Bytes.{linkStart, lengthStart, pieceStart, pieceRoom, size, countOf, lengthAt, belowAt}
+use Rattle.session.specs.Bytes.{linkAt, NoneBelow, pieceAt, sessionOf}
 
 -- what the type of a session says of its bytes
 pub record Lent (bytes : List ℕ) : Type 0 where
@@ -93,3 +94,32 @@ Picks bytes foot test = (i : ℕ) → i < countOf bytes → test (linkAt bytes i
 
 pub record Heaviest (bytes : List ℕ) (foot from most-bytes : ℕ) : Type 0 where
   pub is : (test : Link → Bool) → Picks bytes foot test → most-bytes ≡ most test (loadsFrom bytes from)
+
+-- where the links, their lengths, a piece and all pieces end
+abbrev pub linksEnd : List ℕ → ℕ
+linksEnd bytes = linkStart (countOf bytes)
+
+abbrev pub lengthsEnd : List ℕ → ℕ
+lengthsEnd bytes = lengthStart (countOf bytes)
+
+abbrev pub pieceEnd : List ℕ → ℕ → ℕ
+pieceEnd bytes i = pieceStart i + lengthAt bytes i
+
+abbrev pub piecesEnd : List ℕ → ℕ
+piecesEnd bytes = pieceStart (countOf bytes)
+
+-- the bytes from one place up to another; and whether they hold 0
+unfoldable pub between : ℕ → ℕ → List ℕ → List ℕ
+between s e bytes = take (e - s) (drop s bytes)
+
+pub record Clear (bytes : List ℕ) (s e : ℕ) : Type 0 where
+  pub zero : (k : ℕ) → s ≤ k → k < e → byte bytes k ≡ 0
+
+-- the places behind the first `n` pieces do
+pub record ClearBehind (bytes : List ℕ) (n : ℕ) : Type 0 where
+  pub each : (i : ℕ) → i < n → Clear bytes (pieceEnd bytes i) (pieceStart (i + 1))
+
+-- the count and the lengths of the pieces are no greater than there are places for
+pub record Measured (bytes : List ℕ) : Type 0 where
+  pub count : countOf bytes ≤ linksCap
+  pub short : (i : ℕ) → i < countOf bytes → lengthAt bytes i ≤ pieceRoom

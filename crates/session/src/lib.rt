@@ -2,6 +2,7 @@
 mod fresh;
 pub mod places;
 mod rules;
+mod unused;
 mod weigh;
 
 pub use fresh::Opening;

@@ -7,8 +7,10 @@ ghost use mathlib.Core.List.{[]};
 ghost use lib.ListN.{set};
 ghost use Rattle.table.specs.File.{byte};
 ghost use Rattle.session.specs.Sessions.{started};
-ghost use Rattle.session.specs.Bytes.{linkStart, pieceRoom, countOf, lengthAt, belowAt, linkAt, pieceAt, bytesOf};
-ghost use Rattle.session.specs.Numbers.{Lent, seatAt, footAt, keyAt, headAt};
+ghost use Rattle.session.specs.Bytes.{linkStart, lengthStart, pieceStart, pieceRoom, size, countOf, lengthAt};
+ghost use Rattle.session.specs.Bytes.{belowAt, linkAt, pieceAt, bytesOf};
+ghost use Rattle.session.specs.Numbers.{Lent, seatAt, footAt, keyAt, headAt, linksEnd, lengthsEnd, pieceEnd};
+ghost use Rattle.session.specs.Numbers.{piecesEnd, between};
 
 // Where links, lengths and pieces start, how many places a piece has, and how many bytes there are.
 const LINKS: usize = 2;
@@ -123,6 +125,43 @@ pub fn head(session: &[u8; SIZE], i: usize) -> usize
         return 256;
     }
     wide(session[PIECES + ROOM * i])
+}
+
+// The places that are not used: of links, of lengths, of a piece behind its length, of pieces.
+pub fn unused_links(session: &[u8; SIZE]) -> &[u8]
+    requires { ⌜ countOf (now session) ≤ 64 ⌝ }
+    ensures { λ r. ⌜ now r ≡ between (linksEnd (now (session .entry))) (lengthStart 0) (now (session .entry)) ⌝ }
+{
+    let start = LINKS + 5 * count(session);
+    let all = &session[..];
+    &all[start..LENGTHS]
+}
+
+pub fn unused_lengths(session: &[u8; SIZE]) -> &[u8]
+    requires { ⌜ countOf (now session) ≤ 64 ⌝ }
+    ensures { λ r. ⌜ now r ≡ between (lengthsEnd (now (session .entry))) (pieceStart 0) (now (session .entry)) ⌝ }
+{
+    let start = LENGTHS + 2 * count(session);
+    let all = &session[..];
+    &all[start..PIECES]
+}
+
+pub fn behind_piece(session: &[u8; SIZE], i: usize) -> &[u8]
+    requires { ⌜ (i < 64) × (lengthAt (now session) i ≤ pieceRoom) ⌝ }
+    ensures { λ r. ⌜ now r ≡ between (pieceEnd (now (session .entry)) i) (pieceStart (i + 1)) (now (session .entry)) ⌝ }
+{
+    let start = PIECES + ROOM * i + piece_length(session, i);
+    let all = &session[..];
+    &all[start..PIECES + ROOM * (i + 1)]
+}
+
+pub fn unused_pieces(session: &[u8; SIZE]) -> &[u8]
+    requires { ⌜ countOf (now session) ≤ 64 ⌝ }
+    ensures { λ r. ⌜ now r ≡ between (piecesEnd (now (session .entry))) size (now (session .entry)) ⌝ }
+{
+    let start = PIECES + ROOM * count(session);
+    let all = &session[..];
+    &all[start..SIZE]
 }
 
 // All places to 0: no link is there.

@@ -70,10 +70,10 @@ below-exact n w = exact-as (together-below n w) (ltb-exact (together 0 w) (2 ^ n
 
 -- of a part of a word: its numbers are those of the word from its start on
 module _ (w : Word) (s n : ℕ) (fits : s + n ≤ length w) where
-  pub part-length : length (take n (drop s w)) ≡ n
+  part-length : length (take n (drop s w)) ≡ n
   part-length = simp (length-take, length-drop) (omega arith)
 
-  pub part-at : (k : ℕ) → k < n → getD (take n (drop s w)) k 0 ≡ getD w (s + k) 0
+  part-at : (k : ℕ) → k < n → getD (take n (drop s w)) k 0 ≡ getD w (s + k) 0
   part-at k lt = rw (getD-take, getD-drop)
 
   pub below-part : (m : ℕ) → AllBelow m (take n (drop s w)) ↔ ((k : ℕ) → k < n → getD w (s + k) 0 < m)
