@@ -1,14 +1,16 @@
 -- Soundness of bytes, rule by rule as the code looks at them: by links' numbers and first bytes. Assumes nothing.
 use mathlib.Core.Path.{_≡_, refl, sym, _∙_, ap, subst}
 use mathlib.Core.Logic.{_⊎_, _↔_, inl, inr}
+use mathlib.Core.Bool.{false}
 use mathlib.Core.List.{List, [], _∷_, Memᴰ·map, Memᴰ·of-map, Memᴰ·cast}
 use Prim.Native.Nat.{ℕ, zero, suc, _+_, _<_, _≤_}
 use native.Mathlib.Nat.{eq-or-lt-of-le, eq-zero-or-pos, add-zero}
 use native.Mathlib.Omega.{arith}
 use lib.ListN.{length, getD, List·getD-eq-default}
-use Rattle.words.specs.Lists.{_among_, upTo}
+use Rattle.words.specs.Lists.{_among_, upTo, Exact}
 use Rattle.words.specs.Words.{Word, Bytes, Begins}
 use Rattle.words.proofs.Lists.{upTo-in, upTo-out, below-or, getD-byte, byte-getD}
+use Rattle.words.proofs.Exact.{no-exact}
 use Rattle.words.proofs.Common.{begins, begins-head, begins-not}
 use Rattle.words.proofs.Order.{rises-in, rises-out}
 use Rattle.meaning.specs.Table.{Table}
@@ -19,8 +21,8 @@ use Rattle.session.specs.Sessions.{Entry, entry, Session, Has, AllBegin,
 use Rattle.session.specs.Soundly.{longest}
 use Rattle.session.specs.Bytes.{pieceStart, size, countOf, lengthAt, linkAt, pieceAt, entryAt, sessionOf, Unused}
 use Rattle.session.specs.Bytes.{Kept, SoundBytes}
-use Rattle.session.specs.Numbers.{seatAt, footAt, keyAt, headAt, LinkFits, Links, RootedAt, Common, CarriesAt}
-use Rattle.session.specs.Numbers.{Grouped}
+use Rattle.session.specs.Numbers.{Lent, seatAt, footAt, keyAt, headAt, LinkFits, Links, RootedAt, Common}
+use Rattle.session.specs.Numbers.{CarriesAt, Grouped}
 use Rattle.session.proofs.Tests.{all-as}
 use Rattle.session.proofs.Soundly.{Rooted, lies-rooted, rooted-lies, bottom-lowest, short-longest}
 use Rattle.session.proofs.Bytes.{counted, long, in-piece}
@@ -225,7 +227,7 @@ module _ (T : Table) (bytes : List ℕ) (whole : length bytes ≡ size) (small :
     some-of : 1 ≤ length (S bytes .entries)
     some-of = sound .count .0
 
-    pub sound-places : ByPlace T bytes
+    sound-places : ByPlace T bytes
     sound-places =
         record {
           depth = sound .depth;
@@ -292,7 +294,7 @@ module _ (T : Table) (bytes : List ℕ) (whole : length bytes ≡ size) (small :
     some-at : 1 ≤ length (S bytes .entries)
     some-at = omega (arith, p .count .0, counted bytes)
 
-    pub places-sound : SoundBytes T bytes
+    places-sound : SoundBytes T bytes
     places-sound =
         record {
           kept = record {
@@ -319,5 +321,9 @@ module _ (T : Table) (bytes : List ℕ) (whole : length bytes ≡ size) (small :
         }
 
 -- the code's rules are soundness
-pub by-place : (T : Table) (bytes : List ℕ) → length bytes ≡ size → Bytes bytes → ByPlace T bytes ↔ SoundBytes T bytes
-by-place T bytes whole small = (places-sound T bytes whole small, sound-places T bytes whole small)
+pub by-place : {T : Table} {bytes : List ℕ} → Lent bytes → ByPlace T bytes ↔ SoundBytes T bytes
+by-place {T} {bytes} b = (places-sound T bytes (b .whole) (b .small), sound-places T bytes (b .whole) (b .small))
+
+-- where one is broken, the answer is no
+pub not-sound : {T : Table} {bytes : List ℕ} → Lent bytes → (ByPlace T bytes → ⊥) → Exact (SoundBytes T bytes) false
+not-sound b n = no-exact (λ s. n (by-place b .1 s))
