@@ -114,15 +114,14 @@ module _ {w : Word} {i : ℕ} (c : Cleared w i) where
         zero-in w i (length w - i),
       )
 
-  -- `n` numbers more, which make `r` together
-  module _ (n : ℕ) (fits : i + n ≤ length w) {r : ℕ} (e : r ≡ together 0 (take (i + n - i) (drop i w))) where
-    pub cleared-next : r ≡ 0 → Cleared w (i + n)
-    cleared-next h =
-        let z = together-zero (take (i + n - i) (drop i w)) .0 (sym e ∙ h) in
+  -- `n` numbers more
+  module _ (n : ℕ) where
+    pub cleared-next : i + n ≤ length w → AllZero (take (i + n - i) (drop i w)) → Cleared w (i + n)
+    cleared-next fits z =
         record {
           within = fits;
           each = further (i + n) (λ k g l. zero-part w i (i + n - i) .0 z k g (omega arith));
         }
 
-    pub cleared-not : (r ≡ 0 → ⊥) → AllZero w → ⊥
-    cleared-not f z = f (e ∙ together-zero (take (i + n - i) (drop i w)) .1 (zero-in w i (i + n - i) z))
+    pub cleared-not : (AllZero (take (i + n - i) (drop i w)) → ⊥) → AllZero w → ⊥
+    cleared-not f z = f (zero-in w i (i + n - i) z)

@@ -24,21 +24,24 @@ pub fn zeros(bytes: &[u8]) -> bool
     ensures { λ r. ⌜ Exact (AllZero (now (bytes .entry))) r ⌝ }
 {
     let mut i = 0;
-    while 1024 <= bytes.len() - i {
-        if together(&bytes[i..i + 1024]) != 0 {
+    while 2048 <= bytes.len() - i {
+        if !end_zeros(&bytes[i..i + 2048], 1024) {
             return false;
         }
-        i += 1024;
+        i += 2048;
     }
     few_zeros(&bytes[i..])
 }
 
 // The same of less than a block.
 fn few_zeros(bytes: &[u8]) -> bool
-    requires { ⌜ length (now bytes) < 1024 ⌝ }
+    requires { ⌜ length (now bytes) < 2048 ⌝ }
     ensures { λ r. ⌜ Exact (AllZero (now (bytes .entry))) r ⌝ }
 {
     let n = bytes.len();
+    if 1024 < n {
+        return end_zeros(bytes, 1024);
+    }
     if 512 < n {
         return end_zeros(bytes, 512);
     }

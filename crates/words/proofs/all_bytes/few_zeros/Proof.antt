@@ -40,11 +40,17 @@ end-zeros-requires-6 c κs = search needs
 returns-6 : tie.Need-returns-6
 returns-6 c = search needs
 
+end-zeros-requires-7 : tie.Need-end-zeros-requires-7
+end-zeros-requires-7 c κs = search needs
+
+returns-7 : tie.Need-returns-7
+returns-7 c = search needs
+
 together-requires : tie.Need-together-requires
 together-requires c κs = search needs
 
-returns-7 : tie.Need-returns-7
-returns-7 c = rw (c .together .ensures) (zero-exact _)
+returns-8 : tie.Need-returns-8
+returns-8 c = rw (c .together .ensures) (zero-exact _)
 
 pub few-zeros-spec : {M : Type 1} → statement M
 few-zeros-spec =
@@ -62,5 +68,7 @@ few-zeros-spec =
     returns-5
     end-zeros-requires-6
     returns-6
+    end-zeros-requires-7
+    returns-7
     together-requires
-    returns-7)
+    returns-8)

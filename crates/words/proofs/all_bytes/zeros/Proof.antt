@@ -3,7 +3,7 @@ use Prim.Native.Nat.{_-_}
 use lib.ListN.{length}
 use native.Mathlib.Omega.{arith}
 use borrow.Author.Needs.{needs}
-use Rattle.words.proofs.Exact.{no-exact}
+use Rattle.words.proofs.Exact.{no-exact, denied, granted}
 use Rattle.words.proofs.Cleared.{Cleared, cleared-start, cleared-next, cleared-not, cleared-end}
 use Rattle.words.proofs.all_bytes.zeros.Statement.{statement}
 use Rattle.words.proofs.all_bytes.zeros.Tie as tie
@@ -15,31 +15,30 @@ abbrev μ-loop : tie.MeasureT-loop
 μ-loop bytes i₀ i = length bytes - i
 
 loop-holds : tie.Need-loop-holds Inv-loop μ-loop
-loop-holds c = search needs
+loop-holds c = cleared-start _
 
 sub-loop : tie.Need-sub-loop Inv-loop μ-loop
 sub-loop c = search needs
 
-add-together : tie.Need-add-together Inv-loop μ-loop
-add-together c = search needs
+add-end-zeros : tie.Need-add-end-zeros Inv-loop μ-loop
+add-end-zeros c = search needs
 
-sub-together : tie.Need-sub-together Inv-loop μ-loop
-sub-together c = search needs
+sub-end-zeros : tie.Need-sub-end-zeros Inv-loop μ-loop
+sub-end-zeros c = search needs
 
-part-together-start : tie.Need-part-together-start Inv-loop μ-loop
-part-together-start c = search needs
+part-end-zeros-start : tie.Need-part-end-zeros-start Inv-loop μ-loop
+part-end-zeros-start c = search needs
 
-part-together-end : tie.Need-part-together-end Inv-loop μ-loop
-part-together-end c = search needs
+part-end-zeros-end : tie.Need-part-end-zeros-end Inv-loop μ-loop
+part-end-zeros-end c = search needs
 
-together-requires : tie.Need-together-requires Inv-loop μ-loop
-together-requires c κs = search needs
+end-zeros-requires : tie.Need-end-zeros-requires Inv-loop μ-loop
+end-zeros-requires c κs = search needs
 
 returns : tie.Need-returns Inv-loop μ-loop
 returns c =
-    no-exact
-    (cleared-not (c .before .before .before .before .loop .inv) 1024 (omega arith) (c .before .together .ensures)
-    (c .if1 .taken))
+    let block = denied (c .before .end-zeros .ensures) (c .if1 .taken) in
+    no-exact (cleared-not (c .before .before .before .before .loop .inv) 2048 block)
 
 add-i : tie.Need-add-i Inv-loop μ-loop
 add-i c = search needs
@@ -49,8 +48,8 @@ loop-less c = search needs
 
 loop-again : tie.Need-loop-again Inv-loop μ-loop
 loop-again c =
-    cleared-next (c .before .before .before .before .loop .inv) 1024 (omega arith) (c .before .together .ensures)
-    (c .if1 .left)
+    let block = granted (c .before .end-zeros .ensures) (c .if1 .left) in
+    cleared-next (c .before .before .before .before .loop .inv) 2048 (omega arith) block
 
 sub-few-zeros : tie.Need-sub-few-zeros Inv-loop μ-loop
 sub-few-zeros c = search needs
@@ -75,11 +74,11 @@ zeros-spec =
     μ-loop
     loop-holds
     sub-loop
-    add-together
-    sub-together
-    part-together-start
-    part-together-end
-    together-requires
+    add-end-zeros
+    sub-end-zeros
+    part-end-zeros-start
+    part-end-zeros-end
+    end-zeros-requires
     returns
     add-i
     loop-less
