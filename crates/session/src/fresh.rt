@@ -36,7 +36,7 @@ fn start(session: &mut [u8; SIZE], set: u64)
 {
     clear(session);
     let mut rest = set;
-    let mut i = 0;
+    let mut i: usize = 0;
     while rest != 0 {
         let state = sets::lowest(rest);
         rest = sets::without_lowest(rest);

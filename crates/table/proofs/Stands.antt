@@ -111,7 +111,7 @@ pub rows-of : (file : List ℕ) → tableOf file .rows ≡ map (rowAt file) (upT
 unfolding tableOf
 rows-of file = refl
 
--- of its starting states, what needs no byte to be one: they are below 64, and so there are
+-- its starting states: there are at most 64 states, so that nothing is asked of the file's bytes
 pub starting-of : (file : List ℕ) → Good first file
     → GoodSet (tableOf file .states) (tableOf file .starting)
     × ((q : ℕ) × (q among tableOf file .starting))
