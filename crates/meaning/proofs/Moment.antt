@@ -1,14 +1,15 @@
 -- After a taken message the session stands for the runs over it, less what was sent. Assumes nothing.
 use mathlib.Core.Path.{_≡_, refl, sym, _∙_, ap}
+use mathlib.Core.Logic.{_↔_}
 use mathlib.Core.List.{List, [], _∷_, _++_, map, map-map, map-id, append-assoc, append-nil, append-cancel-left}
-use mathlib.Core.List.{Memᴰ·map}
+use mathlib.Core.List.{Memᴰ·map, Memᴰ·of-map, Memᴰ·cast}
 use Prim.Native.Nat.{ℕ}
 use lib.ListN.{length, drop}
 use lib.Seq.{drop-append-seam}
 use Rattle.words.specs.Lists.{_among_}
 use Rattle.words.specs.Words.{Word, common}
 use Rattle.words.proofs.Lists.{choices-map, map-same, first-of}
-use Rattle.words.proofs.Common.{common-begins, common-ahead}
+use Rattle.words.proofs.Common.{begins-drop, common-begins, common-ahead}
 use Rattle.meaning.specs.Table.{Table, Limits, Good}
 use Rattle.meaning.specs.Trails.{ground, carry}
 use Rattle.meaning.specs.Living.{Place, place, can, goes, moved, begun, living}
@@ -54,11 +55,16 @@ held-in X m = Memᴰ·map (cut X) m
 -- what is sent and what then waits make up what was there
 pub held-front : (X : List Place) (p : Place) → p among X → front (sending X) (cut X p) ≡ p
 held-front X p m =
-    let b = common-begins (outputs X) (Memᴰ·map (λ p. p .output) m) in
-    let z = sending X in
-    let e : z ++ drop (length z) (p .output) ≡ p .output =
-    rw (← b .joins) (ap (λ (w : Word). z ++ w) (drop-append-seam z (b .rest))) in
-    λ i. place (p .trail) (e i)
+    ap (place (p .trail)) (begins-drop (common-begins (outputs X) (Memᴰ·map (λ p. p .output) m)))
+
+-- what waits is what was there with what is sent before it
+pub held-exact : (X : List Place) (p : Place) → (p among held X) ↔ (front (sending X) p among X)
+held-exact X p = (
+  λ m.
+      let o = Memᴰ·of-map (cut X) X m in
+      Memᴰ·cast (ap (front (sending X)) (sym (o .2)) ∙ held-front X (o .0) (o .1)) (o .1),
+  λ m. Memᴰ·cast (sym (ap (place (p .trail)) (drop-append-seam (sending X) (p .output)))) (held-in X m),
+)
 
 held-whole : (X : List Place) → ahead (sending X) (held X) ≡ X
 held-whole X =

@@ -95,7 +95,7 @@ load H e = record { link = e .link; bytes = length (e .piece) + most (standsOn (
 stands-level : (l k : Link) → standsOn l k ≡ true → k .level ≡ suc (l .level)
 stands-level l k h = ap (λ (k : Link). k .level) (stands-exact l k .1 h)
 
-level-less : (k l : Link) → Less (linkKey k) (linkKey l) → k .level ≤ l .level
+pub level-less : (k l : Link) → Less (linkKey k) (linkKey l) → k .level ≤ l .level
 level-less k l (inl h) = omega arith
 level-less k l (inr h) = omega (arith, h .0)
 

@@ -80,7 +80,7 @@ some-waits S n lies = go (S .entries) n (λ l x h. lies l x h)
     go (e ∷ E) n lies = let r = lies (e .link) (e .piece) (List·Memᴰ·head refl) in (r .0, r .1, r .2)
 
 -- of words that do not all begin with one byte, with one word put before each: what begins them all begins that word
-apart-longest : (P : Word → Type 0) → (AllBegin P → ⊥) → (s₀ : Word) → P s₀ → (z o : Word)
+pub apart-longest : (P : Word → Type 0) → (AllBegin P → ⊥) → (s₀ : Word) → P s₀ → (z o : Word)
     → ((s : Word) → P s → Begins z (o ++ s)) → Begins z o
 apart-longest P f s₀ p₀ [] o all = begins o refl
 apart-longest P f s₀ p₀ (b ∷ z) [] all = absurd (f (b, λ s p. begins-trans (begins z refl) (all s p)))

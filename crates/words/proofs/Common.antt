@@ -1,11 +1,14 @@
 -- Laws of the longest common beginning. Assumes nothing.
-use mathlib.Core.Path.{_≡_, refl, sym, _∙_, ap}
+use mathlib.Core.Path.{_≡_, refl, sym, _∙_, ap, subst}
 use mathlib.Core.Bool.{Bool, true, false, cond}
 use mathlib.Core.List.{List, [], _∷_, _++_, List·Memᴰ·head, List·Memᴰ·tail, List·Memᴰ·eq-of-singleton, map}
-use mathlib.Core.List.{append-assoc, append-nil, cons≢nil, head-eq-of-cons-eq, tail-eq-of-cons-eq}
+use mathlib.Core.List.{append-assoc, append-nil, append-cancel-left, cons≢nil, head-eq-of-cons-eq, tail-eq-of-cons-eq}
+use mathlib.Core.List.{Memᴰ·append-left}
 use mathlib.Core.Logic.{_↔_}
 use Prim.Native.Nat.{ℕ}
 use lib.Dec.{eqb}
+use lib.ListN.{length, drop}
+use lib.Seq.{drop-append-seam}
 use borrow.Author.Tests.{eqb-true, eq-eqb}
 use Rattle.words.specs.Lists.{_among_}
 use Rattle.words.specs.Words.{Word, Begins, shared, commonOf, common}
@@ -71,6 +74,17 @@ begins-same (x ∷ xs) (y ∷ ys) p q =
 pub begins-ahead : (z : Word) {xs ys : Word} → Begins xs ys → Begins (z ++ xs) (z ++ ys)
 begins-ahead z {xs} p = begins (p .rest) (append-assoc z xs (p .rest) ∙ ap (λ (l : Word). z ++ l) (p .joins))
 
+-- a beginning and the word less that beginning make up the word
+pub begins-drop : {xs ys : Word} → Begins xs ys → xs ++ drop (length xs) ys ≡ ys
+begins-drop {xs} p = rw (← p .joins) (ap (λ (l : Word). xs ++ l) (drop-append-seam xs (p .rest)))
+
+-- what is longer does not begin it
+longer-not : (x : ℕ) (xs : Word) → Begins (xs ++ x ∷ []) xs → ⊥
+longer-not x xs p =
+    cons≢nil
+    (append-cancel-left xs (x ∷ p .rest) []
+    (sym (append-assoc xs (x ∷ []) (p .rest)) ∙ p .joins ∙ sym (append-nil xs)))
+
 -- of a list of words: it begins each of them,
 pub common-begins : {w : Word} (l : List Word) → w among l → Begins (common l) w
 common-begins [] m = elim m [ ]
@@ -86,6 +100,21 @@ common-longest (x ∷ []) m h = h x (List·Memᴰ·head refl)
 common-longest {z = z} (x ∷ y ∷ l) m h =
     shared-greatest z x (commonOf y l) (h x (List·Memᴰ·head refl))
     (common-longest (y ∷ l) (List·Memᴰ·head refl) (λ w i. h w (List·Memᴰ·tail i)))
+
+-- less what they have in common, words do not all begin with one number
+pub common-off : {v : Word} (l : List Word) → v among l → (b : ℕ)
+    → ((w : Word) → w among l → Begins (b ∷ []) (drop (length (common l)) w)) → ⊥
+common-off l m b h =
+    longer-not b (common l)
+    (common-longest l m
+    (λ w i. subst (Begins (common l ++ b ∷ [])) (begins-drop (common-begins l i)) (begins-ahead (common l) (h w i))))
+
+-- what is in it is in a word of the list
+pub common-among : {b : ℕ} (l : List Word) → b among common l → (w : Word) × (w among l) × (b among w)
+common-among [] m = elim m [ ]
+common-among {b} (w ∷ l) m =
+    let p = common-begins (w ∷ l) (List·Memᴰ·head refl) in
+    (w, List·Memᴰ·head refl, subst (λ (v : Word). b among v) (p .joins) (Memᴰ·append-left (p .rest) m))
 
 -- a common part in front comes out
 pub common-ahead : {v : Word} (z : Word) (l : List Word) → v among l → common (map (λ w. z ++ w) l) ≡ z ++ common l
