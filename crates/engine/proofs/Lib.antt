@@ -1,2 +1,4 @@
 -- What follows of the definitions in `specs/`, one family of facts a file, each building on those before it.
+pub mod Groups
+pub mod Push
 mod Worked
