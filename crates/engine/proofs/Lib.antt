@@ -1,4 +1,5 @@
 -- What follows of the definitions in `specs/`, one family of facts a file, each building on those before it.
 pub mod Groups
 pub mod Push
+pub mod Cut
 mod Worked

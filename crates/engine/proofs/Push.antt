@@ -1,13 +1,16 @@
 -- What pushing makes of entries that rise: each gets what those that stand on it have in common. Assumes nothing.
 use mathlib.Core.Path.{_≡_, refl, sym, _∙_, ap, subst}
+use mathlib.Core.Logic.{_⊎_, inl, inr}
 use mathlib.Core.Bool.{Bool, true, false}
 use mathlib.Core.Option.{some}
 use mathlib.Core.List.{List, [], _∷_, _++_, map, List·Memᴰ·head, Memᴰ·cast, Memᴰ·map, Memᴰ·of-map, Memᴰ·append-right}
-use Prim.Native.Nat.{suc, _≤_}
+use mathlib.Core.List.{List·Memᴰ·tail, List·Memᴰ·cases-cons, List·Memᴰ·append-cases}
+use Prim.Native.Nat.{ℕ, suc, _≤_}
 use native.Mathlib.Omega.{arith}
 use Rattle.words.specs.Lists.{_among_, only}
 use Rattle.words.specs.Words.{Word, common}
 use Rattle.words.proofs.Lists.{map-same, empty-in, empty-out}
+use Rattle.words.proofs.Common.{common-among}
 use Rattle.words.proofs.Order.{rises-map}
 use Rattle.meaning.specs.Trails.{Link, pairKey}
 use Rattle.session.specs.Sessions.{RisesByLink, Entry, entry}
@@ -55,6 +58,7 @@ push-is (e ∷ E) r =
     (λ f m. again f (level-less (e .link) (f .link) (r .0 f m))) in
     cc
 
+-- an entry anywhere is handed what those after it have in common, which is what all have
 pub push-whole : (F : List Entry) (e : Entry) (E : List Entry) → RisesByLink (F ++ e ∷ E)
     → base (push E) (seat (e .link)) ≡ base (push (F ++ e ∷ E)) (seat (e .link))
 push-whole [] e E r = sym (base-after (pushed (push E) e) (push E) (e .link) (omega arith))
@@ -83,3 +87,32 @@ module _ (E : List Entry) (rise : RisesByLink E) where
   pub push-rises : RisesByLink (push E)
   push-rises =
       subst RisesByLink (sym (push-is E rise)) (rises-map entryKey entryKey (pushed (push E)) (λ e f h. h) E rise)
+
+pub push-links : (E : List Entry) → map (λ e. e .link) (push E) ≡ map (λ e. e .link) E
+push-links [] = refl
+push-links (e ∷ E) = ap (λ (L : List Link). e .link ∷ L) (push-links E)
+
+-- what is in a pushed piece is in a piece
+abbrev pub InPiece : ℕ → List Entry → Type 0
+InPiece b E = (l : Link) × (x : Word) × (entry l x among E) × (b among x)
+
+pub push-among : (b : ℕ) (E : List Entry) → InPiece b (push E) → InPiece b E
+push-among b [] o = elim (o .2) [ ]
+push-among b (e ∷ E) o = go (List·Memᴰ·cases-cons (o .2)) (push-among b E)
+  where
+    more : InPiece b E → InPiece b (e ∷ E)
+    more o = (o .0, o .1, List·Memᴰ·tail (o .2), o .3)
+
+    part : (b among e .piece) ⊎ (b among base (push E) (seat (e .link))) → (InPiece b (push E) → InPiece b E)
+        → InPiece b (e ∷ E)
+    part (inl i) ih = (e .link, e .piece, List·Memᴰ·head refl, i)
+    part (inr i) ih =
+        let f = hasFoot (seat (e .link)) in
+        let w = common-among (piecesOn f (push E)) i in
+        let k = pieces-out f (push E) (w .1) in
+        more (ih (k .0, w .0, k .1, w .2))
+
+    go : (entry (o .0) (o .1) ≡ pushed (push E) e) ⊎ (entry (o .0) (o .1) among push E)
+        → (InPiece b (push E) → InPiece b E) → InPiece b (e ∷ E)
+    go (inl h) ih = part (List·Memᴰ·append-cases (e .piece) (subst (λ (f : Entry). b among f .piece) h (o .3))) ih
+    go (inr m) ih = more (ih (o .0, o .1, m, o .3))
