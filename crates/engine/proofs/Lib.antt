@@ -2,4 +2,5 @@
 pub mod Groups
 pub mod Push
 pub mod Cut
+pub mod Settle
 mod Worked
