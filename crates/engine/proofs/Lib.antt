@@ -3,4 +3,5 @@ pub mod Groups
 pub mod Push
 pub mod Cut
 pub mod Settle
+pub mod Sent
 mod Worked
