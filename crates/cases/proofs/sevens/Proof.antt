@@ -1,0 +1,50 @@
+-- `cases::sevens` meets its contract. Invariant: at most one is counted for each byte passed. Assumes nothing.
+use mathlib.Core.Logic.{⊎-elim}
+use Prim.Native.Nat.{_-_, _≤_}
+use native.Mathlib.Omega.{arith}
+use lib.ListN.{length}
+use borrow.Author.Needs.{needs}
+use Rattle.cases.proofs.sevens.Statement.{statement}
+use Rattle.cases.proofs.sevens.Tie as tie
+
+abbrev Inv-loop : tie.InvT-loop
+Inv-loop session bytes sum₀ i₀ sum i = (i ≤ length bytes) × (sum ≤ i)
+
+abbrev μ-loop : tie.MeasureT-loop
+μ-loop session bytes sum₀ i₀ sum i = length bytes - i
+
+loop-holds : tie.Need-loop-holds Inv-loop μ-loop
+loop-holds c = search needs
+
+shared-slice-read-if1 : tie.Need-shared-slice-read-if1 Inv-loop μ-loop
+shared-slice-read-if1 c = search needs
+
+add-sum : tie.Need-add-sum Inv-loop μ-loop
+add-sum c = search needs
+
+add-i : tie.Need-add-i Inv-loop μ-loop
+add-i c = search needs
+
+loop-less : tie.Need-loop-less Inv-loop μ-loop
+loop-less c = search needs
+
+loop-again : tie.Need-loop-again Inv-loop μ-loop
+loop-again c =
+    (omega arith, ⊎-elim (λ w. omega arith) (λ w. omega arith) (c .if1 .came))
+
+returns : tie.Need-returns Inv-loop μ-loop
+returns c = search needs
+
+pub sevens-spec : {M : Type 1} → statement M
+sevens-spec =
+    tie.close
+    (tie.spec
+    Inv-loop
+    μ-loop
+    loop-holds
+    shared-slice-read-if1
+    add-sum
+    add-i
+    loop-less
+    loop-again
+    returns)
