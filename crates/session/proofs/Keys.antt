@@ -43,7 +43,7 @@ module _ (bytes : List ℕ) (small : Bytes bytes) where
       at : (k : ℕ) → byte bytes (linkStart i + k) < 256
       at k = getD-byte bytes small (linkStart i + k)
 
-  module _ (i j : ℕ) (a : NoneBelow bytes i) (b : NoneBelow bytes j) where
+  module _ (i j : ℕ) (a : NoneBelow bytes (linkStart i)) (b : NoneBelow bytes (linkStart j)) where
     abbrev Same : Type 0
     Same =
         (linkAt bytes i .level ≡ linkAt bytes j .level)

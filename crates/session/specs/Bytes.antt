@@ -39,23 +39,27 @@ lengthAt bytes i = two bytes (lengthStart i)
 abbrev pub pair : ℕ → ℕ → Pair
 pair q m = record { state = q; marker = m }
 
-abbrev pub belowAt : List ℕ → ℕ → Pair
-belowAt bytes i = pair (byte bytes (linkStart i + 3)) (byte bytes (linkStart i + 4))
+-- the five bytes of a link, from a place on: level, pair, and the pair below, which a link at level 0 has none of
+abbrev pub belowFrom : List ℕ → ℕ → Pair
+belowFrom bytes k = pair (byte bytes (k + 3)) (byte bytes (k + 4))
 
--- a link at level 0 has nothing below, which is not used
-abbrev pub NoneBelow : List ℕ → ℕ → Type 0
-NoneBelow bytes i =
-    byte bytes (linkStart i) ≡ 0 → (byte bytes (linkStart i + 3) ≡ 0) × (byte bytes (linkStart i + 4) ≡ 0)
-
--- level, pair, and the pair below, which a link at level 0 has none of
-abbrev pub linkAt : List ℕ → ℕ → Link
-linkAt bytes i =
-    let k = linkStart i in
+abbrev pub linkFrom : List ℕ → ℕ → Link
+linkFrom bytes k =
     record {
       level = byte bytes k;
       here = pair (byte bytes (k + 1)) (byte bytes (k + 2));
-      below = cond (eqb (byte bytes k) 0) none (some (belowAt bytes i));
+      below = cond (eqb (byte bytes k) 0) none (some (belowFrom bytes k));
     }
+
+abbrev pub belowAt : List ℕ → ℕ → Pair
+belowAt bytes i = belowFrom bytes (linkStart i)
+
+abbrev pub linkAt : List ℕ → ℕ → Link
+linkAt bytes i = linkFrom bytes (linkStart i)
+
+-- a link at level 0 has nothing below, which is not used
+abbrev pub NoneBelow : List ℕ → ℕ → Type 0
+NoneBelow bytes k = byte bytes k ≡ 0 → (byte bytes (k + 3) ≡ 0) × (byte bytes (k + 4) ≡ 0)
 
 abbrev pub pieceAt : List ℕ → ℕ → Word
 pieceAt bytes i = take (lengthAt bytes i) (drop (pieceStart i) bytes)
@@ -80,7 +84,7 @@ pub record Kept (bytes : List ℕ) : Type 0 where
   pub whole : length bytes ≡ size
   pub small : Bytes bytes
   pub count : countOf bytes ≤ linksCap
-  pub below : (i : ℕ) → i < countOf bytes → NoneBelow bytes i
+  pub below : (i : ℕ) → i < countOf bytes → NoneBelow bytes (linkStart i)
   pub short : (i : ℕ) → i < countOf bytes → lengthAt bytes i ≤ pieceRoom
   pub unused : Unused bytes
 

@@ -46,7 +46,7 @@ headAt bytes i = cond (eqb (lengthAt bytes i) 0) 256 (byte bytes (pieceStart i))
 pub record LinkFits (T : Table) (bytes : List ℕ) (i : ℕ) : Type 0 where
   pub level : linkAt bytes i .level ≤ byte bytes 0
   pub ranges : Ranges T (linkAt bytes i)
-  pub below : NoneBelow bytes i
+  pub below : NoneBelow bytes (linkStart i)
   pub short : lengthAt bytes i ≤ pieceRoom
 
 -- all links are that, and rise
