@@ -1,4 +1,6 @@
 -- What follows of the definitions in `specs/`, one family of facts a file, each building on those before it.
+pub mod Feet
+pub mod Keep
 pub mod Groups
 pub mod Push
 pub mod Cut

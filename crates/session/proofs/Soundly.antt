@@ -15,14 +15,14 @@ use Rattle.words.proofs.Exact.{ltb-exact, leb-exact}
 use Rattle.meaning.specs.Table.{Table}
 use Rattle.meaning.specs.Trails.{Trail, ground, over, height, Link, on, linkOf, links}
 use Rattle.meaning.specs.Answers.{linksCap}
-use Rattle.meaning.proofs.Trails.{Under, same, more, under-height}
+use Rattle.meaning.proofs.Trails.{Under, same, more}
 use Rattle.session.specs.Sessions.{Apart, Lies, RisesByLink, Entry, entry, Session, Has, Spells, Waits, AllBegin}
 use Rattle.session.specs.Sessions.{Ranges, Sound, onBottom, standsOn}
 use Rattle.session.specs.Soundly.{inRanges, rooted, piecesOn, carries, longest, inBytes, soundly}
 use Rattle.session.proofs.Tests.{bottom-exact, stands-exact, as-has, apart-exact, on-pieces, bottom-pieces}
 use Rattle.session.proofs.Tests.{rising-exact}
-use Rattle.session.proofs.Spells.{above-under, above-spells, from-bottom, level-linkOf, has-top, links-under}
-use Rattle.session.proofs.Spells.{some-waits, spells-under, goes-on, spells-longest}
+use Rattle.session.proofs.Spells.{above-under, above-spells, from-bottom, level-linkOf, has-top, lies-spelled}
+use Rattle.session.proofs.Spells.{some-waits, goes-on, spells-longest}
 use Rattle.session.proofs.Loads.{waits-longest, longest-waits}
 
 ranges-exact : (T : Table) (l : Link) → Exact (Ranges T l) (inRanges T l)
@@ -74,20 +74,15 @@ carries-exact S l le =
     fro h (inl e) = inl e
     fro h (inr lt) = inr (h lt)
 
-under-links : (s t : Trail) → Under s t → linkOf s among links t
+pub under-links : (s t : Trail) → Under s t → linkOf s among links t
 under-links (ground q) t same = List·Memᴰ·head refl
 under-links (over q m s) t same = List·Memᴰ·head refl
 under-links s (over q m t) (more u) = List·Memᴰ·tail (under-links s t u)
 
 pub lies-rooted : (S : Session) → Lies S → (l : Link) (x : Word) → Has S l x → Rooted S l
 lies-rooted S lies l x h =
-    let r = lies l x h in
-    let u = links-under l (r .0) (r .3) in
-    let p = spells-under S (u .0) (r .0) (r .1) (u .1) (r .2 .spells) in
-    rw (u .2) (
-      omega (arith, level-linkOf (u .0), under-height (u .0) (r .0) (u .1), r .2 .full),
-      go (u .0) (p .0) (p .1),
-    )
+    let p = lies-spelled S lies l x h in
+    rw (p .2) (omega (arith, level-linkOf (p .0), p .4), go (p .0) (p .1) (p .3))
   where
     go : (s : Trail) (v : Word) → Spells S s v
         → (linkOf s ≡ linkOf (ground (linkOf s .here .state)))

@@ -9,7 +9,7 @@ use Rattle.words.specs.Words.{Word, Begins}
 use Rattle.words.proofs.Common.{begins, begins-head, begins-not, begins-tail, begins-trans}
 use Rattle.words.proofs.Order.{rises-one}
 use Rattle.meaning.specs.Trails.{Trail, ground, over, height, Link, on, linkOf, links, linkKey}
-use Rattle.meaning.proofs.Trails.{Under, same, more}
+use Rattle.meaning.proofs.Trails.{Under, same, more, under-height}
 use Rattle.session.specs.Sessions.{Apart, Lies, RisesByLink, Entry, entry, Session, Has, Spells, Waits, AllBegin}
 use Rattle.session.specs.Sessions.{standsOn}
 use Rattle.session.specs.Soundly.{piecesOn}
@@ -21,7 +21,7 @@ pub data Above (S : Session) : Trail → Trail → Word → Type 0 where
   up : {q m : ℕ} {t T : Trail} {x s : Word} → Has S (linkOf (over q m t)) x → Above S (over q m t) T s
       → Above S t T (x ++ s)
 
-under-over : {q m : ℕ} (t T : Trail) → Under (over q m t) T → Under t T
+pub under-over : {q m : ℕ} (t T : Trail) → Under (over q m t) T → Under t T
 under-over t T same = more same
 under-over t (over q m T) (more u) = more (under-over t T u)
 
@@ -118,6 +118,15 @@ spells-under S t T w same s = (w, s, begins [] (append-nil w))
 spells-under S t (over q m T) w (more u) s =
     let r = spells-under S t T (s .0) u (s .2) in
     (r .0, r .1, begins-trans (r .2) (begins (s .1) (sym (s .4))))
+
+-- a link that lies on a full trail is the top of a trail, and this is spelled
+pub lies-spelled : (S : Session) → Lies S → (l : Link) (x : Word) → Has S l x
+    → (s : Trail) × (v : Word) × (l ≡ linkOf s) × Spells S s v × (height s ≤ S .depth)
+lies-spelled S lies l x h =
+    let r = lies l x h in
+    let u = links-under l (r .0) (r .3) in
+    let p = spells-under S (u .0) (r .0) (r .1) (u .1) (r .2 .spells) in
+    (u .0, p .0, u .2, p .1, omega (arith, under-height (u .0) (r .0) (u .1), r .2 .full))
 
 module _ (S : Session) (apart : Apart S) where
   -- a link below the depth has a link that stands on it

@@ -1,7 +1,7 @@
 -- The only rising list with given members, and the rank of a thing in a list. Assumes nothing.
 use mathlib.Core.Path.{_≡_, refl, sym, _∙_, ap}
 use mathlib.Core.Logic.{_⊎_, inl, inr, _↔_}
-use mathlib.Core.List.{List, [], _∷_, List·Memᴰ·head, List·Memᴰ·tail}
+use mathlib.Core.List.{List, [], _∷_, List·Memᴰ·head, List·Memᴰ·tail, Memᴰ·cast}
 use mathlib.Core.Bool.{Bool, true, false, cond, true≢false}
 use Prim.Native.Nat.{suc, _<_}
 use native.Mathlib.Omega.{arith}
@@ -14,7 +14,7 @@ use Rattle.words.proofs.Order.{less-trans, side-lower, side-same, side-
 module _ {A : Type 0} (key : A → Word) where
   -- what is in it
 
-  put-old : (x z : A) (l : List A) → z among l → z among put key x l
+  pub put-old : (x z : A) (l : List A) → z among l → z among put key x l
   put-old x z (y ∷ l) m = go (side (key x) (key y)) m (λ n. put-old x z l n)
     where
       go : (s : Side) → z among y ∷ l → (z among l → z among put key x l) → z among putBy key s x y l (put key x l)
@@ -23,7 +23,7 @@ module _ {A : Type 0} (key : A → Word) where
       go upper (List·Memᴰ·head e) ih = List·Memᴰ·head e
       go upper (List·Memᴰ·tail m) ih = List·Memᴰ·tail (ih m)
 
-  put-out : (x z : A) (l : List A) → z among put key x l → (z ≡ x) ⊎ (z among l)
+  pub put-out : (x z : A) (l : List A) → z among put key x l → (z ≡ x) ⊎ (z among l)
   put-out x z [] (List·Memᴰ·head e) = inl e
   put-out x z [] (List·Memᴰ·tail m) = inr m
   put-out x z (y ∷ l) m = go (side (key x) (key y)) m (λ n. put-out x z l n)
@@ -47,8 +47,19 @@ module _ {A : Type 0} (key : A → Word) where
       go (inl e) ih = List·Memᴰ·head e
       go (inr n) ih = List·Memᴰ·tail (ih n)
 
+  -- something with the key of what was put
+  pub put-key : (x : A) (l : List A) → (z : A) × (z among put key x l) × (key x ≡ key z)
+  put-key x [] = (x, List·Memᴰ·head refl, refl)
+  put-key x (y ∷ l) = go (side (key x) (key y)) refl (put-key x l)
+    where
+      go : (s : Side) → side (key x) (key y) ≡ s → (z : A) × (z among put key x l) × (key x ≡ key z)
+          → (z : A) × (z among putBy key s x y l (put key x l)) × (key x ≡ key z)
+      go lower e ih = (x, List·Memᴰ·head refl, refl)
+      go same e ih = (y, List·Memᴰ·head refl, side-same (key x) (key y) e)
+      go upper e ih = (ih .0, List·Memᴰ·tail (ih .1), ih .2)
+
   -- it rises
-  put-rises : (x : A) (l : List A) → Rises key l → Rises key (put key x l)
+  pub put-rises : (x : A) (l : List A) → Rises key l → Rises key (put key x l)
   put-rises x [] r = (λ y m. elim m [ ], tt)
   put-rises x (y ∷ l) r = go (side (key x) (key y)) refl (put-rises x l (r .1))
     where
@@ -76,13 +87,7 @@ module _ {A : Type 0} (key : A → Word) where
 
   module _ (one : (x y : A) → key x ≡ key y → x ≡ y) where
     put-new : (x : A) (l : List A) → x among put key x l
-    put-new x [] = List·Memᴰ·head refl
-    put-new x (y ∷ l) = go (side (key x) (key y)) refl (put-new x l)
-      where
-        go : (s : Side) → side (key x) (key y) ≡ s → x among put key x l → x among putBy key s x y l (put key x l)
-        go lower e ih = List·Memᴰ·head refl
-        go same e ih = List·Memᴰ·head (one x y (side-same (key x) (key y) e))
-        go upper e ih = List·Memᴰ·tail ih
+    put-new x l = let z = put-key x l in Memᴰ·cast (one x (z .0) (z .2)) (z .1)
 
     pub arranged-in : (z : A) (l : List A) → z among l → z among arranged key l
     arranged-in z (x ∷ l) (List·Memᴰ·head e) = rw e (put-new x (arranged key l))

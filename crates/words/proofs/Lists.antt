@@ -4,7 +4,7 @@ use mathlib.Core.Logic.{_⊎_, inl, inr}
 use mathlib.Core.Bool.{Bool, true, false, _&&_, _||_, false≢true}
 use mathlib.Core.List.{List, [], _∷_, _++_, map, map-append, append-assoc, List·Memᴰ·head, List·Memᴰ·tail, Memᴰ·cast}
 use mathlib.Core.List.{Memᴰ·of-map, Memᴰ·append-left, Memᴰ·append-right, List·Memᴰ·append-cases}
-use mathlib.Core.List.{List·Memᴰ·eq-of-singleton}
+use mathlib.Core.List.{List·Memᴰ·eq-of-singleton, List·Memᴰ·cases-cons}
 use lib.ListN.{length, length-append, getD, List·getD-eq-default}
 use Prim.Native.Nat.{ℕ, zero, suc, _<_, _≤_, _-_}
 use native.Mathlib.Nat.{eq-zero-or-pos}
@@ -24,6 +24,10 @@ split false b e = absurd (false≢true e)
 pub either : (a b : Bool) → (a || b) ≡ true → (a ≡ true) ⊎ (b ≡ true)
 either true b e = inl e
 either false b e = inr e
+
+pub neither : (a b : Bool) → (a || b) ≡ false → (a ≡ false) × (b ≡ false)
+neither true b e = absurd (false≢true (sym e))
+neither false b e = (refl, e)
 
 -- each
 
@@ -59,6 +63,18 @@ pub only-out : {A : Type 0} (b : Bool) {x y : A} → y among only b x → (b ≡
 only-out true (List·Memᴰ·head e) = (refl, e)
 only-out true (List·Memᴰ·tail m) = elim m [ ]
 only-out false m = elim m [ ]
+
+-- those of a list that pass a test
+
+module _ {A : Type 0} (test : A → Bool) {x : A} (l : List A) where
+  pub passing-in : x among l → test x ≡ true → x among each (λ y. only (test y) y) l
+  passing-in m t = each-in (λ y. only (test y) y) l m (only-in t)
+
+  pub passing-out : x among each (λ y. only (test y) y) l → (x among l) × (test x ≡ true)
+  passing-out m =
+      let y = each-out (λ y. only (test y) y) l m in
+      let o = only-out (test (y .0)) (y .2) in
+      (Memᴰ·cast (o .1) (y .1), ap test (o .1) ∙ o .0)
 
 -- choices
 
@@ -158,6 +174,39 @@ distinct-choices {A} {B} {C} test make X Y d e one = distinct-each (λ x. row x)
         let y = each-out (λ y. only (test x y) (make x y)) Y i in
         let w = each-out (λ y. only (test v y) (make v y)) Y j in
         one x v (y .0) (w .0) (sym (is x (y .0) z (y .2)) ∙ is v (w .0) z (w .2)) .0
+
+-- a list without one of its things
+without : {A : Type 0} (x : A) (k : List A) → x among k
+    → (r : List A) × (length k ≡ suc (length r)) × ((z : A) → z among k → (z ≡ x) ⊎ (z among r))
+without {A} x (y ∷ k) (List·Memᴰ·head e) = (k, refl, λ z m. go z (List·Memᴰ·cases-cons m))
+  where
+    go : (z : A) → (z ≡ y) ⊎ (z among k) → (z ≡ x) ⊎ (z among k)
+    go z (inl f) = inl (f ∙ sym e)
+    go z (inr m) = inr m
+without {A} x (y ∷ k) (List·Memᴰ·tail m) =
+    let r = without x k m in
+    (y ∷ r .0, ap suc (r .1), λ z n. go (r .0) (r .2) z (List·Memᴰ·cases-cons n))
+  where
+    later : (r : List A) (z : A) → (z ≡ x) ⊎ (z among r) → (z ≡ x) ⊎ (z among y ∷ r)
+    later r z (inl f) = inl f
+    later r z (inr n) = inr (List·Memᴰ·tail n)
+
+    go : (r : List A) → ((z : A) → z among k → (z ≡ x) ⊎ (z among r)) → (z : A) → (z ≡ y) ⊎ (z among k)
+        → (z ≡ x) ⊎ (z among y ∷ r)
+    go r h z (inl f) = inr (List·Memᴰ·head f)
+    go r h z (inr n) = later r z (h z n)
+
+-- a list that has all of another with no two the same is at least as long
+pub fewer : {A : Type 0} (l k : List A) → Distinct l → ((z : A) → z among l → z among k) → length l ≤ length k
+fewer [] k d f = omega arith
+fewer {A} (x ∷ l) k d f =
+    let r = without x k (f x (List·Memᴰ·head refl)) in
+    let n = fewer l (r .0) (d .1) (λ z m. go (r .0) z m (r .2 z (f z (List·Memᴰ·tail m)))) in
+    omega (arith, r .1)
+  where
+    go : (r : List A) (z : A) → z among l → (z ≡ x) ⊎ (z among r) → z among r
+    go r z m (inl e) = absurd (d .0 (Memᴰ·cast (sym e) m))
+    go r z m (inr n) = n
 
 -- every and any
 

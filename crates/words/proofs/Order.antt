@@ -10,9 +10,9 @@ use native.Mathlib.Nat.{eq-zero-or-pos}
 use native.Mathlib.Omega.{arith}
 use lib.Dec.{eqb, ltb}
 use borrow.Author.Tests.{eqb-true, eqb-false, ltb-true, ltb-false, eq-eqb}
-use Rattle.words.specs.Lists.{_among_, upTo, Distinct}
+use Rattle.words.specs.Lists.{_among_, each, only, upTo, Distinct}
 use Rattle.words.specs.Words.{Word}
-use Rattle.words.proofs.Lists.{upTo-in, upTo-out, below-or}
+use Rattle.words.proofs.Lists.{passing-out, upTo-in, upTo-out, below-or}
 use Rattle.words.specs.Order.{Less, Side, lower, same, upper, side, isSame, sameWord, Rises}
 
 pub less-self : (xs : Word) → Less xs xs → ⊥
@@ -162,6 +162,15 @@ module _ {A : Type 0} (key : A → Word) where
           → ((x y : A) → x among l → y among m → Less (key x) (key y)) → Less (key x) (key y)
       go x y (inl e) j ih = rw e (r .0 y (Memᴰ·append-right l j))
       go x y (inr i) j ih = ih x y i j
+
+  -- those of a rising list that pass a test rise
+  pub rises-passing : (test : A → Bool) (l : List A) → Rises key l → Rises key (each (λ x. only (test x) x) l)
+  rises-passing test [] r = tt
+  rises-passing test (x ∷ l) r = go (test x) (rises-passing test l (r .1))
+    where
+      go : (b : Bool) → Rises key (each (λ x. only (test x) x) l) → Rises key (only b x ++ each (λ x. only (test x) x) l)
+      go true s = (λ y m. r .0 y (passing-out test l m .0), s)
+      go false s = s
 
   -- a list made of the numbers below `n`, in their order
   module _ (f : ℕ → A) where
