@@ -125,7 +125,9 @@ clashing E k (e ∷ es) f g c =
 
     go : (clashes e k ≡ true) ⊎ (conflict (put entryKey e k) es ≡ true)
         → (conflict (put entryKey e k) es ≡ true → Clash E) → Clash E
-    go (inl a) ih = let r = clashes-exact e k .1 a in clash e (r .0) (g e (List·Memᴰ·head refl)) (f (r .0) (r .1)) (r .2)
+    go (inl a) ih =
+        let r = clashes-exact e k .1 a in
+        clash e (r .0) (g e (List·Memᴰ·head refl)) (f (r .0) (r .1)) (r .2)
     go (inr b) ih = ih b
 
 -- there is a conflict exactly when two entries have one link and different pieces

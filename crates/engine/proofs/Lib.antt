@@ -1,6 +1,9 @@
 -- What follows of the definitions in `specs/`, one family of facts a file, each building on those before it.
 pub mod Feet
 pub mod Keep
+pub mod Tops
+pub mod Follow
+pub mod Grow
 pub mod Groups
 pub mod Push
 pub mod Cut

@@ -1,7 +1,7 @@
 -- What is among the lists that `each`, `only` and the tests speak of. Assumes nothing.
 use mathlib.Core.Path.{_≡_, refl, sym, _∙_, ap, ap₂}
 use mathlib.Core.Logic.{_⊎_, inl, inr}
-use mathlib.Core.Bool.{Bool, true, false, _&&_, _||_, false≢true}
+use mathlib.Core.Bool.{Bool, true, false, _&&_, _||_, not, false≢true}
 use mathlib.Core.List.{List, [], _∷_, _++_, map, map-append, append-assoc, List·Memᴰ·head, List·Memᴰ·tail, Memᴰ·cast}
 use mathlib.Core.List.{Memᴰ·of-map, Memᴰ·append-left, Memᴰ·append-right, List·Memᴰ·append-cases}
 use mathlib.Core.List.{List·Memᴰ·eq-of-singleton, List·Memᴰ·cases-cons}
@@ -63,6 +63,10 @@ pub only-out : {A : Type 0} (b : Bool) {x y : A} → y among only b x → (b ≡
 only-out true (List·Memᴰ·head e) = (refl, e)
 only-out true (List·Memᴰ·tail m) = elim m [ ]
 only-out false m = elim m [ ]
+
+pub only-some : {A : Type 0} (b : Bool) (x : A) → not (isEmpty (only b x)) ≡ b
+only-some true x = refl
+only-some false x = refl
 
 -- those of a list that pass a test
 

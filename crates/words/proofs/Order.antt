@@ -168,7 +168,8 @@ module _ {A : Type 0} (key : A → Word) where
   rises-passing test [] r = tt
   rises-passing test (x ∷ l) r = go (test x) (rises-passing test l (r .1))
     where
-      go : (b : Bool) → Rises key (each (λ x. only (test x) x) l) → Rises key (only b x ++ each (λ x. only (test x) x) l)
+      go : (b : Bool) → Rises key (each (λ x. only (test x) x) l)
+          → Rises key (only b x ++ each (λ x. only (test x) x) l)
       go true s = (λ y m. r .0 y (passing-out test l m .0), s)
       go false s = s
 
