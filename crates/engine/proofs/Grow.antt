@@ -2,7 +2,7 @@
 use mathlib.Core.Path.{_≡_, refl, sym, _∙_, ap}
 use mathlib.Core.Bool.{Bool, true, false, cond, _&&_}
 use mathlib.Core.Logic.{_↔_}
-use mathlib.Core.List.{List, [], _++_, Memᴰ·cast, append-cancel-left}
+use mathlib.Core.List.{List, [], _++_, append-cancel-left}
 use Prim.Native.Nat.{ℕ}
 use lib.Dec.{eqb}
 use borrow.Author.Tests.{eqb-true, eq-eqb}
@@ -18,8 +18,8 @@ use Rattle.session.proofs.Spells.{level-linkOf, spells-one}
 use Rattle.session.proofs.Listed.{trails-exact}
 use Rattle.engine.specs.Stepping.{fitsLink, follow, takes, grow}
 use Rattle.engine.proofs.Keep.{Clash}
-use Rattle.engine.proofs.Tops.{Rest, Tops, atop, Topped, topped-waits, waits-topped}
-use Rattle.engine.proofs.Follow.{Comes, comes, Leads, leads, follow-tops, follow-level}
+use Rattle.engine.proofs.Tops.{Rest, Tops, atop, Topped, topped-waits, waits-topped, tops-topped}
+use Rattle.engine.proofs.Follow.{comes, leads, follow-tops, follow-level}
 
 -- a trail with its output comes of one of a kind, by a row of the symbol
 pub record Moved (T : Table) (P : Trail → Word → Type 0) (a : ℕ) (t : Trail) (o : Word) : Type 0 where
@@ -197,19 +197,12 @@ module _ (T : Table) (S : Session) (a : ℕ) where
   pub clash-exact : Sound T S → Clash (grow T S a) ↔ Apart
   clash-exact ok = (to, fro)
     where
-      waits : {l : Link} (x : Word) (p : Tops S l) → entry l x among grow T S a
+      goes-to : {l : Link} (x : Word) (p : Tops S l) → entry l x among grow T S a
           → Moved T (Waits S) a (p .trail) (p .rest ++ x)
-      waits {l} x p m =
+      goes-to x p m =
+          let N = grow T S a in
           grow-exact (p .trail) (p .rest ++ x) .0
-          (topped-waits S after (grow T S a) (p .trail) (p .rest ++ x)
-          (record {
-            full = sym (level-linkOf (p .trail)) ∙ ap (λ (k : Link). k .level) (sym (p .is)) ∙ grow-level (entry l x) m;
-            rest = p .rest;
-            piece = x;
-            below = p .below;
-            new = Memᴰ·cast (λ i. entry (sym (p .is) i) x) m;
-            joined = refl;
-          }))
+          (topped-waits S after N (p .trail) (p .rest ++ x) (tops-topped S after N grow-level x p m))
 
       to : Clash (grow T S a) → Apart
       to c =
@@ -218,8 +211,8 @@ module _ (T : Table) (S : Session) (a : ℕ) where
             trail = p .trail;
             one = p .rest ++ c .one;
             other = p .rest ++ c .other;
-            first = waits (c .one) p (c .first);
-            second = waits (c .other) p (c .second);
+            first = goes-to (c .one) p (c .first);
+            second = goes-to (c .other) p (c .second);
             apart = λ e. c .apart (append-cancel-left (p .rest) (c .one) (c .other) e);
           }
 

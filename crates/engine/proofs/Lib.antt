@@ -4,6 +4,7 @@ pub mod Keep
 pub mod Tops
 pub mod Follow
 pub mod Grow
+pub mod Shake
 pub mod Groups
 pub mod Push
 pub mod Cut

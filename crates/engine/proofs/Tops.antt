@@ -2,6 +2,7 @@
 use mathlib.Core.Path.{_≡_, refl, sym, _∙_, ap}
 use mathlib.Core.Logic.{_⊎_, inl, inr}
 use mathlib.Core.List.{List, [], _++_, List·Memᴰ·append-cases, Memᴰ·append-left, Memᴰ·append-right}
+use mathlib.Core.List.{Memᴰ·cast}
 use Prim.Native.Nat.{ℕ, _<_, _≤_}
 use native.Mathlib.Omega.{arith}
 use lib.Dec.{ltb}
@@ -75,6 +76,12 @@ pub record Topped (S : Session) (d : ℕ) (N : List Entry) (t : Trail) (w : Word
   pub new : entry (linkOf t) piece among N
   pub joined : w ≡ rest ++ piece
 
+-- of two new tops one of which has that of the trail where the other has it
+pub topped-to : {S : Session} {d : ℕ} {N M : List Entry} {t : Trail} {w : Word} (p : Topped S d N t w)
+    → entry (linkOf t) (p .piece) among M → Topped S d M t w
+topped-to p m =
+    record { full = p .full; rest = p .rest; piece = p .piece; below = p .below; new = m; joined = p .joined }
+
 module _ (S : Session) (d : ℕ) (N : List Entry) where
   abbrev whole : Session
   whole = atop d (S .entries) N
@@ -124,4 +131,16 @@ module _ (S : Session) (d : ℕ) (N : List Entry) where
           below = rest-to whole S t (p .0) (λ l x k m. low l x (omega (arith, h .full)) m) (p .2);
           new = high (linkOf t) (p .1) (level-linkOf t ∙ h .full) (p .3);
           joined = p .4;
+        }
+
+    pub tops-topped : {l : Link} (x : Word) (p : Tops S l) → entry l x among N
+        → Topped S d N (p .trail) (p .rest ++ x)
+    tops-topped {l} x p m =
+        record {
+          full = sym (level-linkOf (p .trail)) ∙ ap (λ (k : Link). k .level) (sym (p .is)) ∙ level (entry l x) m;
+          rest = p .rest;
+          piece = x;
+          below = p .below;
+          new = Memᴰ·cast (λ i. entry (sym (p .is) i) x) m;
+          joined = refl;
         }

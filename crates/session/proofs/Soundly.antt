@@ -2,8 +2,8 @@
 use mathlib.Core.Path.{_≡_, refl, sym, _∙_, ap}
 use mathlib.Core.Logic.{_⊎_, inl, inr, _↔_}
 use mathlib.Core.Bool.{Bool}
-use mathlib.Core.List.{[], _∷_, _++_, List·Memᴰ·head, List·Memᴰ·tail, Memᴰ·cast}
-use Prim.Native.Nat.{ℕ, zero, suc, _-_, _<_, _≤_}
+use mathlib.Core.List.{[], _∷_, _++_}
+use Prim.Native.Nat.{ℕ, zero, suc, _<_, _≤_}
 use native.Mathlib.Nat.{eq-or-lt-of-le}
 use native.Mathlib.Omega.{arith}
 use lib.ListN.{length}
@@ -13,16 +13,15 @@ use Rattle.words.proofs.Common.{begins, begins-trans}
 use Rattle.words.proofs.Exact.{exact-as, and-exact, then-exact, or-exact, if-exact, every-exact, any-exact, eqb-exact}
 use Rattle.words.proofs.Exact.{ltb-exact, leb-exact}
 use Rattle.meaning.specs.Table.{Table}
-use Rattle.meaning.specs.Trails.{Trail, ground, over, height, Link, on, linkOf, links}
+use Rattle.meaning.specs.Trails.{Trail, ground, over, Link, on, linkOf}
 use Rattle.meaning.specs.Answers.{linksCap}
-use Rattle.meaning.proofs.Trails.{Under, same, more}
 use Rattle.session.specs.Sessions.{Apart, Lies, RisesByLink, Entry, entry, Session, Has, Spells, Waits, AllBegin}
 use Rattle.session.specs.Sessions.{Ranges, Sound, onBottom, standsOn}
 use Rattle.session.specs.Soundly.{inRanges, rooted, piecesOn, carries, longest, inBytes, soundly}
 use Rattle.session.proofs.Tests.{bottom-exact, stands-exact, as-has, apart-exact, on-pieces, bottom-pieces}
 use Rattle.session.proofs.Tests.{rising-exact}
-use Rattle.session.proofs.Spells.{above-under, above-spells, from-bottom, level-linkOf, has-top, lies-spelled}
-use Rattle.session.proofs.Spells.{some-waits, goes-on, spells-longest}
+use Rattle.session.proofs.Spells.{from-bottom, level-linkOf, has-top, lies-spelled, spelled-lies, stood}
+use Rattle.session.proofs.Spells.{some-waits, spells-longest}
 use Rattle.session.proofs.Loads.{waits-longest, longest-waits}
 
 ranges-exact : (T : Table) (l : Link) → Exact (Ranges T l) (inRanges T l)
@@ -74,11 +73,6 @@ carries-exact S l le =
     fro h (inl e) = inl e
     fro h (inr lt) = inr (h lt)
 
-pub under-links : (s t : Trail) → Under s t → linkOf s among links t
-under-links (ground q) t same = List·Memᴰ·head refl
-under-links (over q m s) t same = List·Memᴰ·head refl
-under-links s (over q m t) (more u) = List·Memᴰ·tail (under-links s t u)
-
 pub lies-rooted : (S : Session) → Lies S → (l : Link) (x : Word) → Has S l x → Rooted S l
 lies-rooted S lies l x h =
     let p = lies-spelled S lies l x h in
@@ -124,13 +118,7 @@ module _ (S : Session) (roots : (l : Link) (x : Word) → Has S l x → Rooted S
       let s = down (l .level) l x refl h in
       let a = ap (λ (k : Link). k .level) (s .2) in
       let b = roots l x h .0 in
-      let r = goes-on S apart (S .depth - height (s .0)) (s .0) (s .1) (omega (arith, level-linkOf (s .0))) (s .3) in
-      let U = r .1 .0 in (
-        U,
-        s .1 ++ r .0,
-        record { full = r .1 .2; spells = above-spells S (s .0) U (s .1) (r .0) (s .3) (r .1 .1) },
-        Memᴰ·cast (s .2) (under-links (s .0) U (above-under S (s .0) U (r .0) (r .1 .1))),
-      )
+      spelled-lies S (stood S apart) l (s .0, s .1, s .2, s .3, omega (arith, level-linkOf (s .0)))
 
 -- "the waiting outputs have no common first byte": the pieces at level 0 have none
 pub bottom-lowest : (S : Session) → Apart S

@@ -1,6 +1,7 @@
 -- What the trails of a sound session spell. Assumes nothing.
 use mathlib.Core.Path.{_≡_, refl, sym, _∙_, ap}
-use mathlib.Core.List.{List, [], _∷_, _++_, List·Memᴰ·head, List·Memᴰ·tail, append-assoc, append-nil}
+use mathlib.Core.List.{List, [], _∷_, _++_, List·Memᴰ·head, List·Memᴰ·tail, Memᴰ·cast, append-assoc}
+use mathlib.Core.List.{append-nil}
 use Prim.Native.Nat.{ℕ, zero, suc, _+_, _-_, _<_, _≤_}
 use native.Mathlib.Omega.{arith}
 use lib.ListN.{length}
@@ -69,6 +70,11 @@ links-under l (ground q) (List·Memᴰ·tail m) = elim m [ ]
 links-under l (over q n t) (List·Memᴰ·head e) = (over q n t, same, e)
 links-under l (over q n t) (List·Memᴰ·tail m) = let r = links-under l t m in (r .0, more (r .1), r .2)
 
+pub under-links : (s t : Trail) → Under s t → linkOf s among links t
+under-links (ground q) t same = List·Memᴰ·head refl
+under-links (over q m s) t same = List·Memᴰ·head refl
+under-links s (over q m t) (more u) = List·Memᴰ·tail (under-links s t u)
+
 -- where every link lies on a full trail, there is one
 pub some-waits : (S : Session) → 1 ≤ length (S .entries) → Lies S → (t : Trail) × (w : Word) × Waits S t w
 some-waits S n lies = go (S .entries) n (λ l x h. lies l x h)
@@ -119,14 +125,39 @@ spells-under S t (over q m T) w (more u) s =
     let r = spells-under S t T (s .0) u (s .2) in
     (r .0, r .1, begins-trans (r .2) (begins (s .1) (sym (s .4))))
 
--- a link that lies on a full trail is the top of a trail, and this is spelled
-pub lies-spelled : (S : Session) → Lies S → (l : Link) (x : Word) → Has S l x
-    → (s : Trail) × (v : Word) × (l ≡ linkOf s) × Spells S s v × (height s ≤ S .depth)
+-- a link is the top of a trail that is spelled, and is not above the depth
+abbrev pub TopOf : Session → Link → Type 0
+TopOf S l = (s : Trail) × (v : Word) × (l ≡ linkOf s) × Spells S s v × (height s ≤ S .depth)
+
+-- a link that lies on a full trail is one
+pub lies-spelled : (S : Session) → Lies S → (l : Link) (x : Word) → Has S l x → TopOf S l
 lies-spelled S lies l x h =
     let r = lies l x h in
     let u = links-under l (r .0) (r .3) in
     let p = spells-under S (u .0) (r .0) (r .1) (u .1) (r .2 .spells) in
     (u .0, p .0, u .2, p .1, omega (arith, under-height (u .0) (r .0) (u .1), r .2 .full))
+
+-- where a link stands on each link below the depth
+module _ (S : Session) (stood : (t : Trail) (x : Word) → Has S (linkOf t) x → height t < S .depth → Stood S t) where
+  -- a trail goes on to a full one
+  pub goes-on : (n : ℕ) (t : Trail) (o : Word) → height t + n ≡ S .depth → Spells S t o → (s : Word) × GoesOn S t s
+  goes-on zero t o e p = ([], (t, no-more, omega arith))
+  goes-on (suc n) t o e p =
+      let h = has-top S t o p in
+      let k = stood t (h .0) (h .1) (omega arith) in
+      let r = goes-on n (over (k .0) (k .1) t) (o ++ k .2) (omega arith) (o, k .2, p, k .3, refl) in
+      (k .2 ++ r .0, (r .1 .0, up {T = r .1 .0} {s = r .0} (k .3) (r .1 .1), r .1 .2))
+
+  -- and the top of one that is spelled lies on a full one
+  pub spelled-lies : (l : Link) → TopOf S l → (t : Trail) × (w : Word) × Waits S t w × (l among links t)
+  spelled-lies l p =
+      let r = goes-on (S .depth - height (p .0)) (p .0) (p .1) (omega (arith, p .4)) (p .3) in
+      let U = r .1 .0 in (
+        U,
+        p .1 ++ r .0,
+        record { full = r .1 .2; spells = above-spells S (p .0) U (p .1) (r .0) (p .3) (r .1 .1) },
+        Memᴰ·cast (p .2) (under-links (p .0) U (above-under S (p .0) U (r .0) (r .1 .1))),
+      )
 
 module _ (S : Session) (apart : Apart S) where
   -- a link below the depth has a link that stands on it
@@ -139,15 +170,6 @@ module _ (S : Session) (apart : Apart S) where
       let k = on-pieces S l (w .0) .1 (w .1) in
       (k .0, k .1, w .0, k .2)
 
-  -- a trail goes on to a full one
-  pub goes-on : (n : ℕ) (t : Trail) (o : Word) → height t + n ≡ S .depth → Spells S t o → (s : Word) × GoesOn S t s
-  goes-on zero t o e p = ([], (t, no-more, omega arith))
-  goes-on (suc n) t o e p =
-      let h = has-top S t o p in
-      let k = stood t (h .0) (h .1) (omega arith) in
-      let r = goes-on n (over (k .0) (k .1) t) (o ++ k .2) (omega arith) (o, k .2, p, k .3, refl) in
-      (k .2 ++ r .0, (r .1 .0, up (k .3) (r .1 .1), r .1 .2))
-
   -- what goes on from a trail does not all begin with one byte
   goes-apart : (n : ℕ) (t : Trail) (o : Word) → height t + n ≡ S .depth → Spells S t o → AllBegin (GoesOn S t) → ⊥
   goes-apart zero t o e p a = begins-not (a .1 [] (t, no-more, omega arith))
@@ -158,7 +180,7 @@ module _ (S : Session) (apart : Apart S) where
         λ y k.
             let u = over (k .0) (k .1) t in
             let p′ : Spells S u (o ++ y) = (o, y, p, k .2, refl) in
-            let r = goes-on n u (o ++ y) (omega arith) p′ in
+            let r = goes-on S stood n u (o ++ y) (omega arith) p′ in
             apart-longest (GoesOn S u) (goes-apart n u (o ++ y) (omega arith) p′) (r .0) (r .1) (a .0 ∷ []) y
             (λ s g. a .1 (y ++ s) (g .0, up (k .2) (g .1), g .2)),
       )
@@ -169,7 +191,7 @@ module _ (S : Session) (apart : Apart S) where
   spells-longest t o z le p all =
       let n = S .depth - height t in
       let e : height t + n ≡ S .depth = omega arith in
-      let r = goes-on n t o e p in
+      let r = goes-on S stood n t o e p in
       apart-longest (GoesOn S t) (goes-apart n t o e p) (r .0) (r .1) z o
       (λ s g.
       all (g .0) (o ++ s) (above-under S t (g .0) s (g .1))
