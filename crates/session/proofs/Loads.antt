@@ -92,7 +92,7 @@ abbrev load : List Load → Entry → Load
 load H e = record { link = e .link; bytes = length (e .piece) + most (standsOn (e .link)) H }
 
 -- what stands on a link is at the next level
-pub stands-level : (l k : Link) → standsOn l k ≡ true → k .level ≡ suc (l .level)
+stands-level : (l k : Link) → standsOn l k ≡ true → k .level ≡ suc (l .level)
 stands-level l k h = ap (λ (k : Link). k .level) (stands-exact l k .1 h)
 
 pub level-less : (k l : Link) → Less (linkKey k) (linkKey l) → k .level ≤ l .level

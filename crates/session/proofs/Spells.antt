@@ -22,7 +22,7 @@ pub data Above (S : Session) : Trail → Trail → Word → Type 0 where
   up : {q m : ℕ} {t T : Trail} {x s : Word} → Has S (linkOf (over q m t)) x → Above S (over q m t) T s
       → Above S t T (x ++ s)
 
-pub under-over : {q m : ℕ} (t T : Trail) → Under (over q m t) T → Under t T
+under-over : {q m : ℕ} (t T : Trail) → Under (over q m t) T → Under t T
 under-over t T same = more same
 under-over t (over q m T) (more u) = more (under-over t T u)
 
