@@ -12,7 +12,7 @@ use Rattle.session.specs.Sessions.{RisesByLink, Entry, entry, AllBegin}
 use Rattle.session.specs.Soundly.{piecesOn}
 use Rattle.session.proofs.Tests.{pieces-in, pieces-out}
 use Rattle.engine.specs.Stepping.{foot, hasFoot, base, entryKey, cut}
-use Rattle.engine.proofs.Groups.{foot-exact, foot-self}
+use Rattle.engine.proofs.Feet.{foot-exact, foot-own}
 
 -- an entry less what those beside it have in common
 abbrev shorn : List Entry → Entry → Entry
@@ -21,7 +21,7 @@ shorn K e = entry (e .link) (drop (length (base K (foot (e .link)))) (e .piece))
 module _ (K : List Entry) where
   base-drop : (l : Link) (y : Word) → entry l y among K → base K (foot l) ++ drop (length (base K (foot l))) y ≡ y
   base-drop l y m =
-      begins-drop (common-begins (piecesOn (hasFoot (foot l)) K) (pieces-in (hasFoot (foot l)) K l y m (foot-self l)))
+      begins-drop (common-begins (piecesOn (hasFoot (foot l)) K) (pieces-in (hasFoot (foot l)) K l y m (foot-own l)))
 
   pub cut-in : (l : Link) (y : Word) → entry l y among K
       → (x : Word) × (entry l x among cut K) × (base K (foot l) ++ x ≡ y)

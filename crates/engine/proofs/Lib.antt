@@ -5,7 +5,6 @@ pub mod Tops
 pub mod Follow
 pub mod Grow
 pub mod Shake
-pub mod Groups
 pub mod Push
 pub mod Cut
 pub mod Settle

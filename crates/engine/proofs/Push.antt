@@ -18,7 +18,7 @@ use Rattle.session.specs.Soundly.{piecesOn}
 use Rattle.session.proofs.Tests.{pieces-out}
 use Rattle.session.proofs.Loads.{level-less}
 use Rattle.engine.specs.Stepping.{seat, hasFoot, base, entryKey, push}
-use Rattle.engine.proofs.Groups.{foot-level}
+use Rattle.engine.proofs.Feet.{foot-level}
 
 -- an entry that has not the foot adds nothing
 pub base-skip : (k : Entry) (K : List Entry) (f : Word) → (hasFoot f (k .link) ≡ true → ⊥) → base (k ∷ K) f ≡ base K f

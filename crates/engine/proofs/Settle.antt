@@ -20,7 +20,7 @@ use Rattle.session.proofs.Tests.{as-has, all-as}
 use Rattle.session.proofs.Spells.{from-bottom, level-linkOf, links-under, has-one, spells-under}
 use Rattle.session.proofs.Soundly.{lies-rooted, bottom-lowest, short-longest}
 use Rattle.engine.specs.Stepping.{foot, seat, hasFoot, base, push, settled, sending}
-use Rattle.engine.proofs.Groups.{foot-exact, foot-self, seat-exact, foot-level}
+use Rattle.engine.proofs.Feet.{foot-exact, foot-own, seat-exact, foot-level}
 use Rattle.engine.proofs.Push.{base-none, push-in, push-out, push-rises, push-links, InPiece, push-among}
 use Rattle.engine.proofs.Cut.{cut-in, cut-out, cut-apart, cut-rises, cut-links}
 
@@ -177,7 +177,7 @@ module _ (H : Session) (rise : RisesByLink (H .entries)) where
         (λ all.
         let g = from-bottom H t o (h .spells) in
         let k = linkOf (ground (g .0)) in
-        cut-apart (push E) (0 ∷ []) k (g .1 ++ handed H (seat k)) (push-in E rise k (g .1) (g .3)) (foot-self k)
+        cut-apart (push E) (0 ∷ []) k (g .1 ++ handed H (seat k)) (push-in E rise k (g .1) (g .3)) (foot-own k)
         (all-as (λ w m. lowest (m .0) w (m .1) (m .2) (lies-rooted (settled H) settled-lies (m .0) w (m .1) .1)) all))
       where
         lowest : (l : Link) (w : Word) → Has (settled H) l w → hasFoot (0 ∷ []) l ≡ true
