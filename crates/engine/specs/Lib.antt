@@ -1,2 +1,3 @@
--- What a step does, on lists of links; the calls' contracts do not speak of it.
+-- What a step does, on lists of links, and the room that it does it in; the calls' contracts do not speak of it.
 pub mod Stepping
+pub mod Drafts

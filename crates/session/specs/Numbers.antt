@@ -13,8 +13,8 @@ use Rattle.meaning.specs.Answers.{linksCap}
 use Rattle.table.specs.File.{byte}
 use Rattle.session.specs.Sessions.{Ranges, standsOn}
 use Rattle.session.specs.Soundly.{Load, most, loads}
-use Rattle.session.specs.Bytes.{linkStart, lengthStart, pieceStart, pieceRoom, size, countOf, lengthAt, belowAt}
-use Rattle.session.specs.Bytes.{linkAt, NoneBelow, pieceAt, sessionOf}
+use Rattle.session.specs.Bytes.{linkStart, lengthStart, pieceStart, pieceRoom, size, countOf, lengthAt}
+use Rattle.session.specs.Bytes.{belowFrom, linkFrom, linkAt, NoneBelow, pieceAt, sessionOf}
 
 -- what the type of a session says of its bytes
 pub record Lent (bytes : List ℕ) : Type 0 where
@@ -23,20 +23,29 @@ pub record Lent (bytes : List ℕ) : Type 0 where
 
 -- a link's level, state and marker as one number, the level counted from 1; and what it stands on, in the same way: a
 -- link stands on another where its foot is the other's seat, and a link at level 0 has foot 0
-abbrev pub seatAt : List ℕ → ℕ → ℕ
-seatAt bytes i =
-    let l = linkAt bytes i in
+abbrev pub seatFrom : List ℕ → ℕ → ℕ
+seatFrom bytes k =
+    let l = linkFrom bytes k in
     ((l .level + 1) * 256 + l .here .state) * 256 + l .here .marker
 
-abbrev pub footAt : List ℕ → ℕ → ℕ
-footAt bytes i = (linkAt bytes i .level * 256 + belowAt bytes i .state) * 256 + belowAt bytes i .marker
+abbrev pub footFrom : List ℕ → ℕ → ℕ
+footFrom bytes k = (linkFrom bytes k .level * 256 + belowFrom bytes k .state) * 256 + belowFrom bytes k .marker
 
 -- its five bytes as one number, the level first
-abbrev pub keyAt : List ℕ → ℕ → ℕ
-keyAt bytes i =
-    let l = linkAt bytes i in
-    let b = belowAt bytes i in
+abbrev pub keyFrom : List ℕ → ℕ → ℕ
+keyFrom bytes k =
+    let l = linkFrom bytes k in
+    let b = belowFrom bytes k in
     (((l .level * 256 + l .here .state) * 256 + l .here .marker) * 256 + b .state) * 256 + b .marker
+
+abbrev pub seatAt : List ℕ → ℕ → ℕ
+seatAt bytes i = seatFrom bytes (linkStart i)
+
+abbrev pub footAt : List ℕ → ℕ → ℕ
+footAt bytes i = footFrom bytes (linkStart i)
+
+abbrev pub keyAt : List ℕ → ℕ → ℕ
+keyAt bytes i = keyFrom bytes (linkStart i)
 
 -- the first byte of its piece; 256 where that is empty
 abbrev pub headAt : List ℕ → ℕ → ℕ

@@ -1,4 +1,7 @@
 // What stands where in a session's bytes. Nobody else counts them.
+use crate::links::foot_from;
+use crate::links::key_from;
+use crate::links::seat_from;
 use table::load_two;
 use words::wide;
 ghost use mathlib.Core.Path.{_≡_};
@@ -79,23 +82,22 @@ pub fn seat(session: &[u8; SIZE], i: usize) -> usize
     requires { ⌜ i < 64 ⌝ }
     ensures { λ r. ⌜ r ≡ seatAt (now (session .entry)) i ⌝ }
 {
-    ((level(session, i) + 1) * 256 + state(session, i)) * 256 + marker(session, i)
+    seat_from(&session[..], LINKS + 5 * i)
 }
 
 pub fn foot(session: &[u8; SIZE], i: usize) -> usize
     requires { ⌜ i < 64 ⌝ }
     ensures { λ r. ⌜ r ≡ footAt (now (session .entry)) i ⌝ }
 {
-    (level(session, i) * 256 + state_below(session, i)) * 256 + marker_below(session, i)
+    foot_from(&session[..], LINKS + 5 * i)
 }
 
-// The five bytes of a link as one number, which rises as links do.
+// Its five bytes as one number, which rises as links do.
 pub fn key(session: &[u8; SIZE], i: usize) -> usize
     requires { ⌜ i < 64 ⌝ }
     ensures { λ r. ⌜ (r ≡ keyAt (now (session .entry)) i) × (r < 1099511627776) ⌝ }
 {
-    let here = (level(session, i) * 256 + state(session, i)) * 256 + marker(session, i);
-    (here * 256 + state_below(session, i)) * 256 + marker_below(session, i)
+    key_from(&session[..], LINKS + 5 * i)
 }
 
 pub fn piece_length(session: &[u8; SIZE], i: usize) -> usize

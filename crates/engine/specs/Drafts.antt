@@ -1,0 +1,77 @@
+-- The room that a step works in: 64 slots, each with the five bytes of a link, two of a length, one that is not used, and
+-- 768 places for a piece; and the order in which the slots are read, the last link first.
+use mathlib.Core.Path.{_≡_}
+use mathlib.Core.Logic.{_↔_}
+use mathlib.Core.Option.{Option, some, none}
+use mathlib.Core.List.{List, [], _∷_}
+use Prim.Native.Nat.{ℕ, zero, suc, _+_, _*_, _<_, _≤_}
+use lib.ListN.{length, getD, take, drop}
+use Rattle.words.specs.Words.{Word, Bytes}
+use Rattle.meaning.specs.Trails.{Pair, Link}
+use Rattle.meaning.specs.Answers.{linksCap}
+use Rattle.table.specs.File.{two}
+use Rattle.session.specs.Sessions.{Entry, entry}
+use Rattle.session.specs.Bytes.{linkFrom, NoneBelow}
+
+abbrev pub slotStart : ℕ → ℕ
+slotStart s = 776 * s
+
+abbrev pub draftRoom : ℕ
+draftRoom = 768
+
+abbrev pub workSize : ℕ
+workSize = 49664
+
+abbrev pub lengthIn : List ℕ → ℕ → ℕ
+lengthIn work s = two work (slotStart s + 5)
+
+abbrev pub pieceIn : List ℕ → ℕ → Word
+pieceIn work s = take (lengthIn work s) (drop (slotStart s + 8) work)
+
+abbrev pub draftIn : List ℕ → ℕ → Entry
+draftIn work s = entry (linkFrom work (slotStart s)) (pieceIn work s)
+
+abbrev pub slotOf : List ℕ → ℕ → ℕ
+slotOf order i = getD order i 0
+
+-- things stacked, the last put on first
+abbrev pub stacked : {A : Type 0} → (ℕ → A) → ℕ → List A
+stacked f zero = []
+stacked f (suc n) = f n ∷ stacked f n
+
+-- the entries that are drafted, in the order of a session's
+abbrev pub draftsOf : List ℕ → List ℕ → ℕ → List Entry
+draftsOf work order n = stacked (λ i. draftIn work (slotOf order i)) n
+
+-- `n` slots are in use, and read once each
+pub record Drafts (work order : List ℕ) (n : ℕ) : Type 0 where
+  pub whole : length work ≡ workSize
+  pub small : Bytes work
+  pub ordered : length order ≡ linksCap
+  pub few : n ≤ linksCap
+  pub within : (i : ℕ) → i < n → slotOf order i < n
+  pub once : (i j : ℕ) → i < j → j < n → slotOf order i ≡ slotOf order j → ⊥
+  pub below : (i : ℕ) → i < n → NoneBelow work (slotStart (slotOf order i))
+  pub short : (i : ℕ) → i < n → lengthIn work (slotOf order i) ≤ draftRoom
+
+-- links as numbers, as `keyFrom`, `seatFrom` and `footFrom` have them of bytes
+abbrev pub pairNo : Option Pair → ℕ
+pairNo none = 0
+pairNo (some p) = p .state * 256 + p .marker
+
+abbrev pub linkNo : Link → ℕ
+linkNo l = ((l .level * 256 + l .here .state) * 256 + l .here .marker) * 65536 + pairNo (l .below)
+
+abbrev pub seatNo : Link → ℕ
+seatNo l = ((l .level + 1) * 256 + l .here .state) * 256 + l .here .marker
+
+abbrev pub footNo : Link → ℕ
+footNo l = l .level * 65536 + pairNo (l .below)
+
+-- a link whose numbers are bytes, with nothing below exactly at level 0
+pub record Plain (l : Link) : Type 0 where
+  pub level : l .level < 256
+  pub state : l .here .state < 256
+  pub marker : l .here .marker < 256
+  pub none : (l .level ≡ 0) ↔ (l .below ≡ none)
+  pub pair : (p : Pair) → l .below ≡ some p → (p .state < 256) × (p .marker < 256)
