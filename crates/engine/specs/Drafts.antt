@@ -1,7 +1,7 @@
 -- The room that a step works in: 64 slots, each with the five bytes of a link, two of a length, one that is not used, and
 -- 768 places for a piece; and the order in which the slots are read, the last link first.
 use mathlib.Core.Path.{_≡_}
-use mathlib.Core.Logic.{_↔_}
+use mathlib.Core.Logic.{_⊎_, _↔_}
 use mathlib.Core.Option.{Option, some, none}
 use mathlib.Core.List.{List, [], _∷_}
 use Prim.Native.Nat.{ℕ, zero, suc, _+_, _*_, _<_, _≤_}
@@ -9,7 +9,7 @@ use lib.ListN.{length, getD, take, drop}
 use Rattle.words.specs.Words.{Word, Bytes}
 use Rattle.meaning.specs.Trails.{Pair, Link}
 use Rattle.meaning.specs.Answers.{linksCap}
-use Rattle.table.specs.File.{two}
+use Rattle.table.specs.File.{byte, two}
 use Rattle.session.specs.Sessions.{Entry, entry}
 use Rattle.session.specs.Bytes.{linkFrom, NoneBelow}
 
@@ -75,3 +75,13 @@ pub record Plain (l : Link) : Type 0 where
   pub marker : l .here .marker < 256
   pub none : (l .level ≡ 0) ↔ (l .below ≡ none)
   pub pair : (p : Pair) → l .below ≡ some p → (p .state < 256) × (p .marker < 256)
+
+-- a slot was filled with the link of a number and a piece, and all other slots are as they were
+pub record Filled (work : List ℕ) (s key : ℕ) (piece : Word) (work′ : List ℕ) : Type 0 where
+  pub whole : length work′ ≡ length work
+  pub small : Bytes work′
+  pub link : (l : Link) → Plain l → linkNo l ≡ key
+      → (linkFrom work′ (slotStart s) ≡ l) × NoneBelow work′ (slotStart s)
+  pub long : lengthIn work′ s ≡ length piece
+  pub is : pieceIn work′ s ≡ piece
+  pub others : (k : ℕ) → (k < slotStart s) ⊎ (slotStart (s + 1) ≤ k) → byte work′ k ≡ byte work k
