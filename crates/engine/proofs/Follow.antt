@@ -68,13 +68,13 @@ abbrev lands : Row → Entry → Entry → List Entry
 lands r e f =
     only (hasFoot (seat (f .link)) (e .link)) (entry (movedTo (r .to) (f .link)) (f .piece ++ e .piece ++ r .word))
 
-record Popped (E : List Entry) (r : Row) (e z : Entry) : Type 0 where
-  under : Entry
-  listed : under among E
-  stands : hasFoot (seat (under .link)) (e .link) ≡ true
-  is : z ≡ entry (movedTo (r .to) (under .link)) (under .piece ++ e .piece ++ r .word)
+pub record Popped (E : List Entry) (r : Row) (e z : Entry) : Type 0 where
+  pub under : Entry
+  pub listed : under among E
+  pub stands : hasFoot (seat (under .link)) (e .link) ≡ true
+  pub is : z ≡ entry (movedTo (r .to) (under .link)) (under .piece ++ e .piece ++ r .word)
 
-popped : (E : List Entry) (r : Row) (e z : Entry) → z among follow return E r e → Popped E r e z
+pub popped : (E : List Entry) (r : Row) (e z : Entry) → z among follow return E r e → Popped E r e z
 popped E r e z m =
     let f = each-out (lands r e) E m in
     let o = only-out (hasFoot (seat (f .0 .link)) (e .link)) (f .2) in

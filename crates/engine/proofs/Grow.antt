@@ -79,15 +79,15 @@ module _ (T : Table) (S : Session) (a : ℕ) where
   taken e r = cond (takes T S a e r) (follow (T .class a) (S .entries) r e) []
 
   -- what an entry follows, and by which row
-  record Follows (z : Entry) : Type 0 where
-    from : Entry
-    by : Row
-    listed : from among S .entries
-    present : from .link .level ≡ S .depth
-    row : by among T .rows
-    reads : by .symbol ≡ a
-    fitting : fitsLink (T .class a) by (from .link) ≡ true
-    is : z among follow (T .class a) (S .entries) by from
+  pub record Follows (z : Entry) : Type 0 where
+    pub from : Entry
+    pub by : Row
+    pub listed : from among S .entries
+    pub present : from .link .level ≡ S .depth
+    pub row : by among T .rows
+    pub reads : by .symbol ≡ a
+    pub fitting : fitsLink (T .class a) by (from .link) ≡ true
+    pub is : z among follow (T .class a) (S .entries) by from
 
   grow-in : (z : Entry) → Follows z → z among grow T S a
   grow-in z f =
@@ -97,7 +97,7 @@ module _ (T : Table) (S : Session) (a : ℕ) where
       each-in (λ e. each (taken e) (T .rows)) (S .entries) (f .listed)
       (each-in (taken (f .from)) (T .rows) (f .row) (rw t (f .is)))
 
-  grow-out : (z : Entry) → z among grow T S a → Follows z
+  pub grow-out : (z : Entry) → z among grow T S a → Follows z
   grow-out z m =
       let x = each-out (λ e. each (taken e) (T .rows)) (S .entries) m in
       let y = each-out (taken (x .0)) (T .rows) (x .2) in
@@ -184,6 +184,14 @@ module _ (T : Table) (S : Session) (a : ℕ) where
             joined = m .written ∙ l .written;
           }))
 
+  -- an entry that has grown is the top of a trail that moved
+  pub grow-moved : {l : Link} (x : Word) (p : Tops S l) → entry l x among grow T S a
+      → Moved T (Waits S) a (p .trail) (p .rest ++ x)
+  grow-moved x p m =
+      let N = grow T S a in
+      grow-exact (p .trail) (p .rest ++ x) .0
+      (topped-waits S after N (p .trail) (p .rest ++ x) (tops-topped S after N grow-level x p m))
+
   -- two that moved have one trail and different outputs
   pub record Apart : Type 0 where
     pub trail : Trail
@@ -197,13 +205,6 @@ module _ (T : Table) (S : Session) (a : ℕ) where
   pub clash-exact : Sound T S → Clash (grow T S a) ↔ Apart
   clash-exact ok = (to, fro)
     where
-      goes-to : {l : Link} (x : Word) (p : Tops S l) → entry l x among grow T S a
-          → Moved T (Waits S) a (p .trail) (p .rest ++ x)
-      goes-to x p m =
-          let N = grow T S a in
-          grow-exact (p .trail) (p .rest ++ x) .0
-          (topped-waits S after N (p .trail) (p .rest ++ x) (tops-topped S after N grow-level x p m))
-
       to : Clash (grow T S a) → Apart
       to c =
           let p = grow-tops (ok .lies) (entry (c .link) (c .one)) (c .first) in
@@ -211,8 +212,8 @@ module _ (T : Table) (S : Session) (a : ℕ) where
             trail = p .trail;
             one = p .rest ++ c .one;
             other = p .rest ++ c .other;
-            first = goes-to (c .one) p (c .first);
-            second = goes-to (c .other) p (c .second);
+            first = grow-moved (c .one) p (c .first);
+            second = grow-moved (c .other) p (c .second);
             apart = λ e. c .apart (append-cancel-left (p .rest) (c .one) (c .other) e);
           }
 

@@ -9,4 +9,5 @@ pub mod Push
 pub mod Cut
 pub mod Settle
 pub mod Sent
+pub mod Number
 mod Worked
