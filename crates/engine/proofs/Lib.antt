@@ -10,4 +10,5 @@ pub mod Cut
 pub mod Settle
 pub mod Sent
 pub mod Number
+pub mod Bounds
 mod Worked

@@ -108,6 +108,15 @@ module _ (H : Session) (rise : RisesByLink (H .entries)) where
             ∙ telescope (sending H) (s .0) (s .1) (p .0) (handed H (seat (linkOf t))) (h .0) _ (p .2) (h .2),
       )
 
+  -- a trail spells no less than the piece on its top
+  pub piece-within : (t : Trail) (w x : Word) → Spells H t w → Has H (linkOf t) x → length x ≤ length w
+  piece-within (ground q) w x s h =
+      let e = ap length (has-one H rise (linkOf (ground q)) x w h s) in
+      omega arith
+  piece-within (over q m t) w x s h =
+      let e = ap length (has-one H rise (linkOf (over q m t)) x (s .1) h (s .3)) in
+      omega (arith, ap length (s .4), length-append (s .0) (s .1))
+
   module _ (lies : Lies H) where
     -- at the depth nothing is handed down
     handed-none : (t : Trail) → height t ≡ H .depth → handed H (seat (linkOf t)) ≡ []
@@ -195,15 +204,6 @@ module _ (H : Session) (rise : RisesByLink (H .entries)) where
         → (longest (settled H .entries) ≤ n) ↔ ((t : Trail) (w : Word) → Waits (settled H) t w → length w ≤ n)
     settled-longest one n =
         short-longest (settled H) settled-rises settled-apart settled-lies (omega (arith, settled-length H)) n
-
-    -- a trail spells no less than the piece on its top
-    piece-within : (t : Trail) (w x : Word) → Spells H t w → Has H (linkOf t) x → length x ≤ length w
-    piece-within (ground q) w x s h =
-        let e = ap length (has-one H rise (linkOf (ground q)) x w h s) in
-        omega arith
-    piece-within (over q m t) w x s h =
-        let e = ap length (has-one H rise (linkOf (over q m t)) x (s .1) h (s .3)) in
-        omega (arith, ap length (s .4), length-append (s .0) (s .1))
 
     -- what a lower part spells, with what its top hands down, begins what waits
     handed-begins : (s t : Trail) (o : Word) → Under s t → Waits H t o
