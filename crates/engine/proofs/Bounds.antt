@@ -56,6 +56,19 @@ append-bytes x y f g b m = go (List·Memᴰ·append-cases x m)
     go (inl i) = f b i
     go (inr i) = g b i
 
+module _ (T : Table) (S : Session) (a : ℕ) where
+  -- what is kept, and what is left of it, was there or follows
+  pub kept-cases : (z : Entry) → z among kept T S a .entries → (z among S .entries) ⊎ (z among grow T S a)
+  kept-cases z m = go (List·Memᴰ·append-cases (lower (deeper (T .class a) (S .depth)) (S .entries)) m)
+    where
+      go : (z among lower (deeper (T .class a) (S .depth)) (S .entries)) ⊎ (z among keep [] (grow T S a))
+          → (z among S .entries) ⊎ (z among grow T S a)
+      go (inl n) = inl (lower-out (deeper (T .class a) (S .depth)) (S .entries) n .0)
+      go (inr n) = inr (keep-among (grow T S a) n)
+
+  pub shaken-cases : (z : Entry) → z among shaken (kept T S a) .entries → (z among S .entries) ⊎ (z among grow T S a)
+  shaken-cases z m = kept-cases z (shake-out _ (kept T S a .entries) z m .0)
+
 module _ (T : Table) (good : Good edition1 T) (S : Session) (ok : Sound T S) where
   -- a trail that is spelled goes on to a full one: what it spells is no longer than what may wait
   spelled-short : (t : Trail) (v : Word) → height t ≤ S .depth → Spells S t v → length v ≤ 512
@@ -224,17 +237,9 @@ module _ (T : Table) (good : Good edition1 T) (S : Session) (ok : Sound T S) whe
     grow-small le z m =
         tops-small (grow-tops T S a (ok .lies) z m) (grow-ranges z m) (omega (arith, grow-level T S a z m))
 
-    -- what is kept is of one or the other
-    pub kept-cases : (z : Entry) → z among kept T S a .entries → (z among S .entries) ⊎ (z among grow T S a)
-    kept-cases z m = go (List·Memᴰ·append-cases (lower (deeper (T .class a) (S .depth)) (S .entries)) m)
-      where
-        go : (z among lower (deeper (T .class a) (S .depth)) (S .entries)) ⊎ (z among keep [] (grow T S a))
-            → (z among S .entries) ⊎ (z among grow T S a)
-        go (inl n) = inl (lower-out (deeper (T .class a) (S .depth)) (S .entries) n .0)
-        go (inr n) = inr (keep-among (grow T S a) n)
-
+    -- what is kept
     pub kept-short : (z : Entry) → z among kept T S a .entries → length (z .piece) ≤ 767
-    kept-short z m = go (kept-cases z m)
+    kept-short z m = go (kept-cases T S a z m)
       where
         go : (z among S .entries) ⊎ (z among grow T S a) → length (z .piece) ≤ 767
         go (inl n) = omega (arith, piece-short (z .link) (z .piece) n)
@@ -242,14 +247,11 @@ module _ (T : Table) (good : Good edition1 T) (S : Session) (ok : Sound T S) whe
 
     pub kept-small : deeper (T .class a) (S .depth) ≤ T .depthCap → (z : Entry) → z among kept T S a .entries
         → Small (z .link)
-    kept-small le z m = go (kept-cases z m)
+    kept-small le z m = go (kept-cases T S a z m)
       where
         go : (z among S .entries) ⊎ (z among grow T S a) → Small (z .link)
         go (inl n) = has-small (z .link) (z .piece) n
         go (inr n) = grow-small le z n
-
-    pub shaken-cases : (z : Entry) → z among shaken (kept T S a) .entries → (z among S .entries) ⊎ (z among grow T S a)
-    shaken-cases z m = kept-cases z (shake-out _ (kept T S a .entries) z m .0)
 
     -- what is pushed is no longer than an output that moved, which is one that waited with a word
     pub pushed-short : conflict [] (grow T S a) ≡ false → (l : Link) (y : Word)

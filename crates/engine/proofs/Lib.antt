@@ -11,4 +11,5 @@ pub mod Settle
 pub mod Sent
 pub mod Number
 pub mod Bounds
+pub mod Stepped
 mod Worked
