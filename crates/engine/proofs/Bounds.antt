@@ -17,10 +17,11 @@ use Rattle.meaning.specs.Trails.{Trail, ground, over, height, Pair, Link, on, l
 use Rattle.meaning.specs.Answers.{deeper}
 use Rattle.session.specs.Sessions.{Entry, entry, Session, Has, Spells, Ranges, Sound}
 use Rattle.session.proofs.Tests.{as-has}
-use Rattle.session.proofs.Spells.{above-spells, level-linkOf, has-top, lies-spelled, goes-on, stood}
+use Rattle.session.proofs.Spells.{above-spells, level-linkOf, has-top, piece-within, lies-spelled, goes-on, stood}
 use Rattle.session.proofs.Soundly.{lies-rooted}
 use Rattle.session.proofs.Bytes.{none-some}
 use Rattle.session.proofs.Encoded.{small-nil}
+use Rattle.session.proofs.RoundTrip.{piece-short}
 use Rattle.engine.specs.Stepping.{movedTo, follow, grow, conflict, keep, lower, kept, shaken, push}
 use Rattle.engine.proofs.Feet.{seat-exact}
 use Rattle.engine.proofs.Keep.{keep-among}
@@ -28,7 +29,7 @@ use Rattle.engine.proofs.Tops.{Rest, parts, Tops, lower-out}
 use Rattle.engine.proofs.Follow.{popped}
 use Rattle.engine.proofs.Grow.{grow-out, grow-level, grow-tops}
 use Rattle.engine.proofs.Shake.{shake-out, shaken-rises, shaken-lies, shaken-exact}
-use Rattle.engine.proofs.Settle.{piece-within, pushed-bounded}
+use Rattle.engine.proofs.Settle.{pushed-bounded}
 
 -- what the numbers of a link are at most, and that it has something below it exactly above level 0
 pub record Small (l : Link) : Type 0 where
@@ -79,17 +80,7 @@ module _ (T : Table) (good : Good edition1 T) (S : Session) (ok : Sound T S) whe
       let w = ok .short U (v ++ r .0) (record { full = r .1 .2; spells = h }) in
       omega (arith, length-append v (r .0), good .waitingCap)
 
-  -- the piece on a link, and with one that stands on it
-  pub piece-short : (l : Link) (x : Word) → Has S l x → length x ≤ 512
-  piece-short l x h =
-      let p = lies-spelled S (ok .lies) l x h in
-      let k = as-has S (entry l x) (linkOf (p .0)) h (p .2) in
-      omega (
-        arith,
-        spelled-short (p .0) (p .1) (p .4) (p .3),
-        piece-within S (ok .rise) (p .0) (p .1) x (p .3) k,
-      )
-
+  -- the piece on a link, with one that stands on it
   pub pieces-short : (l : Link) (x y : Word) (q m : ℕ) → Has S l x → Has S (on q m l) y → length x + length y ≤ 512
   pieces-short l x y q m h k =
       let p = lies-spelled S (ok .lies) l x h in
@@ -201,7 +192,7 @@ module _ (T : Table) (good : Good edition1 T) (S : Session) (ok : Sound T S) whe
         ranges = moved-ranges (r .to) (ap (λ (z : Entry). z .link) i) to old;
         before = e .piece;
         piece = ap (λ (z : Entry). z .piece) i;
-        short = piece-short (e .link) (e .piece) m;
+        short = piece-short T good S ok e m;
         bytes = ok .bytes (e .link) (e .piece) m;
       }
 
@@ -242,7 +233,7 @@ module _ (T : Table) (good : Good edition1 T) (S : Session) (ok : Sound T S) whe
     kept-short z m = go (kept-cases T S a z m)
       where
         go : (z among S .entries) ⊎ (z among grow T S a) → length (z .piece) ≤ 767
-        go (inl n) = omega (arith, piece-short (z .link) (z .piece) n)
+        go (inl n) = omega (arith, piece-short T good S ok z n)
         go (inr n) = grow-short z n
 
     pub kept-small : deeper (T .class a) (S .depth) ≤ T .depthCap → (z : Entry) → z among kept T S a .entries

@@ -17,7 +17,7 @@ use Rattle.meaning.proofs.Trails.{Under, same, more, under-height}
 use Rattle.session.specs.Sessions.{Apart, Lies, RisesByLink, Entry, entry, Session, Has, Spells, Waits, AllBegin}
 use Rattle.session.specs.Soundly.{longest}
 use Rattle.session.proofs.Tests.{as-has, all-as}
-use Rattle.session.proofs.Spells.{from-bottom, level-linkOf, links-under, has-one, spells-under}
+use Rattle.session.proofs.Spells.{from-bottom, level-linkOf, links-under, piece-within, spells-under}
 use Rattle.session.proofs.Soundly.{lies-rooted, bottom-lowest, short-longest}
 use Rattle.engine.specs.Stepping.{foot, seat, hasFoot, base, push, settled, sending}
 use Rattle.engine.proofs.Feet.{foot-exact, foot-own, seat-exact, foot-level}
@@ -107,15 +107,6 @@ module _ (H : Session) (rise : RisesByLink (H .entries)) where
         ap (λ (v : Word). sending H ++ v) (s .4)
             ∙ telescope (sending H) (s .0) (s .1) (p .0) (handed H (seat (linkOf t))) (h .0) _ (p .2) (h .2),
       )
-
-  -- a trail spells no less than the piece on its top
-  pub piece-within : (t : Trail) (w x : Word) → Spells H t w → Has H (linkOf t) x → length x ≤ length w
-  piece-within (ground q) w x s h =
-      let e = ap length (has-one H rise (linkOf (ground q)) x w h s) in
-      omega arith
-  piece-within (over q m t) w x s h =
-      let e = ap length (has-one H rise (linkOf (over q m t)) x (s .1) h (s .3)) in
-      omega (arith, ap length (s .4), length-append (s .0) (s .1))
 
   module _ (lies : Lies H) where
     -- at the depth nothing is handed down
@@ -232,7 +223,7 @@ module _ (H : Session) (rise : RisesByLink (H .entries)) where
             let z = handed H (seat (linkOf s)) in
             omega (
               arith,
-              piece-within s (b .0) x (b .1) h,
+              piece-within H rise s (b .0) x (b .1) h,
               ap length e,
               ap length (b .2 .joins),
               length-append x z,

@@ -41,7 +41,7 @@ apart-out c k e =
     record { some = ltb-true 0 (c .1) (f .0); later = f .1; rest = s .1 }
 
 -- a number that no test has is not given
-absent : (n : ℕ) (k : List (Bool × ℕ)) → 0 < n → every (λ d. not (eqb n (d .1))) k ≡ true → first k ≡ n → ⊥
+pub absent : (n : ℕ) (k : List (Bool × ℕ)) → 0 < n → every (λ d. not (eqb n (d .1))) k ≡ true → first k ≡ n → ⊥
 absent n [] l h e = omega arith
 absent n (c ∷ k) l h e = go (c .0) e (absent n k l (s .1))
   where

@@ -14,7 +14,7 @@ use Rattle.session.specs.Sessions.{Entry, Session, Has, Spells, Ranges, 
 use Rattle.session.specs.Bytes.{pieceRoom, sessionOf, belowBytes, linkBytes, bytesOf, SoundBytes}
 use Rattle.session.proofs.Bytes.{none-some, bytes-same}
 use Rattle.session.proofs.Soundly.{Rooted, lies-rooted}
-use Rattle.session.proofs.Spells.{links-under, spells-under, has-one}
+use Rattle.session.proofs.Spells.{links-under, spells-under, piece-within}
 use Rattle.session.proofs.Tests.{as-has}
 use Rattle.session.proofs.Listed.{trails-same}
 use Rattle.meaning.specs.Living.{Place}
@@ -33,22 +33,15 @@ module _ (T : Table) (good : Good edition1 T) (S : Session) (ok : Sound T S) whe
       let r = range e m in
       (omega (arith, r .state, good .states .1), omega (arith, r .marker, good .markers))
 
-  piece-short : (e : Entry) → e among S .entries → length (e .piece) ≤ pieceRoom
+  pub piece-short : (e : Entry) → e among S .entries → length (e .piece) ≤ pieceRoom
   piece-short e m =
       let r = ok .lies (e .link) (e .piece) m in
       let u = links-under (e .link) (r .0) (r .3) in
       let p = spells-under S (u .0) (r .0) (r .1) (u .1) (r .2 .spells) in
-      let a = top-short (u .0) (p .0) (p .1) (as-has S e (linkOf (u .0)) m (u .2)) in
+      let h = as-has S e (linkOf (u .0)) m (u .2) in
+      let a = piece-within S (ok .rise) (u .0) (p .0) (e .piece) (p .1) h in
       let b = ap length (p .2 .joins) in
       omega (arith, length-append (p .0) (p .2 .rest), ok .short (r .0) (r .1) (r .2), good .waitingCap)
-    where
-      top-short : (t : Trail) (v : Word) → Spells S t v → Has S (linkOf t) (e .piece) → length (e .piece) ≤ length v
-      top-short (ground q) v p h = rw (has-one S (ok .rise) (linkOf (ground q)) (e .piece) v h p) (omega arith)
-      top-short (over q m t) v p h =
-          let x = has-one S (ok .rise) (linkOf (over q m t)) (e .piece) (p .1) h (p .3) in
-          let y = ap length x in
-          let z = ap length (p .4) in
-          omega (arith, length-append (p .0) (p .1))
 
   below-none : (e : Entry) → e among S .entries → (e .link .level ≡ 0) ↔ (e .link .below ≡ none)
   below-none e m = go (root e m .1)

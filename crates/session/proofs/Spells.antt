@@ -4,7 +4,7 @@ use mathlib.Core.List.{List, [], _∷_, _++_, List·Memᴰ·head, List·Memᴰ·
 use mathlib.Core.List.{append-nil}
 use Prim.Native.Nat.{ℕ, zero, suc, _+_, _-_, _<_, _≤_}
 use native.Mathlib.Omega.{arith}
-use lib.ListN.{length}
+use lib.ListN.{length, length-append}
 use Rattle.words.specs.Lists.{_among_}
 use Rattle.words.specs.Words.{Word, Begins}
 use Rattle.words.proofs.Common.{begins, begins-head, begins-not, begins-tail, begins-trans}
@@ -116,6 +116,13 @@ module _ (S : Session) (rise : RisesByLink (S .entries)) where
       let e = spells-one t (a .0) (b .0) (a .2) (b .2) in
       let f = has-one (linkOf (over q m t)) (a .1) (b .1) (a .3) (b .3) in
       cc (a .4, b .4, e, f)
+
+  -- a trail spells no less than the piece on its top
+  pub piece-within : (t : Trail) (w x : Word) → Spells S t w → Has S (linkOf t) x → length x ≤ length w
+  piece-within (ground q) w x s h = let e = ap length (has-one (linkOf (ground q)) x w h s) in omega arith
+  piece-within (over q m t) w x s h =
+      let e = ap length (has-one (linkOf (over q m t)) x (s .1) h (s .3)) in
+      omega (arith, ap length (s .4), length-append (s .0) (s .1))
 
 -- what a lower part spells begins what the trail spells
 pub spells-under : (S : Session) (t T : Trail) (w : Word) → Under t T → Spells S T w
