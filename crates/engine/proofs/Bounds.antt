@@ -3,7 +3,7 @@ use mathlib.Core.Path.{_≡_, refl, sym, _∙_, ap, subst}
 use mathlib.Core.Bool.{false, _&&_}
 use mathlib.Core.Logic.{_⊎_, inl, inr, _↔_}
 use mathlib.Core.Option.{some, none, Option·some-injective}
-use mathlib.Core.List.{List, [], _++_, List·Memᴰ·eq-of-singleton, List·Memᴰ·append-cases}
+use mathlib.Core.List.{[], _++_, List·Memᴰ·eq-of-singleton, List·Memᴰ·append-cases}
 use Prim.Native.Nat.{ℕ, _+_, _-_, _<_, _≤_}
 use native.Mathlib.Nat.{eq-or-lt-of-le}
 use native.Mathlib.Omega.{arith}
@@ -12,7 +12,8 @@ use lib.ListN.{length, length-append}
 use borrow.Author.Tests.{eqb-false}
 use Rattle.words.specs.Lists.{_among_}
 use Rattle.words.specs.Words.{Word, Bytes}
-use Rattle.meaning.specs.Table.{Class, unused, call, return, internal, is, Row, Table, edition1, MarkFits, GoodRow, Good}
+use Rattle.meaning.specs.Table.{Class, unused, call, return, internal, is, Row, Table}
+use Rattle.meaning.specs.Table.{edition1, MarkFits, GoodRow, Good}
 use Rattle.meaning.specs.Trails.{Trail, ground, over, height, Pair, Link, on, linkOf}
 use Rattle.meaning.specs.Answers.{deeper}
 use Rattle.session.specs.Sessions.{Entry, entry, Session, Has, Spells, Ranges, Sound}

@@ -12,4 +12,5 @@ pub mod Sent
 pub mod Number
 pub mod Bounds
 pub mod Stepped
+pub mod Told
 mod Worked

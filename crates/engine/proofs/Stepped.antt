@@ -8,15 +8,15 @@ use Prim.Native.Nat.{ℕ, _≤_}
 use native.Mathlib.Omega.{arith}
 use lib.ListN.{length}
 use borrow.Author.Tests.{ltb-false}
-use Rattle.words.specs.Lists.{_among_, isEmpty}
+use Rattle.words.specs.Lists.{_among_}
 use Rattle.words.specs.Words.{Word, Bytes}
 use Rattle.words.proofs.Lists.{first-of, fewer}
 use Rattle.meaning.specs.Table.{Table, edition1, Good}
-use Rattle.meaning.specs.Trails.{Trail, Link}
+use Rattle.meaning.specs.Trails.{Link}
 use Rattle.meaning.specs.Living.{Place, moved}
-use Rattle.meaning.specs.Answers.{linksCap, deeper, sends, follows}
+use Rattle.meaning.specs.Answers.{linksCap, sends, follows}
 use Rattle.meaning.proofs.Tests.{Fails, fails}
-use Rattle.session.specs.Sessions.{Entry, entry, Session, Has, Waits, Ranges, Sound, trails, stands}
+use Rattle.session.specs.Sessions.{entry, Session, Has, Waits, Ranges, Sound, trails, stands}
 use Rattle.session.specs.Soundly.{longest}
 use Rattle.session.proofs.Spells.{has-top}
 use Rattle.session.proofs.Listed.{trails-exact}

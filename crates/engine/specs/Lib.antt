@@ -1,3 +1,4 @@
--- What a step does, on lists of links, and the room that it does it in; the calls' contracts do not speak of it.
+-- What the call `step` promises; and, for proofs only, what a step does on lists of links and the room that it does it in.
+pub mod Calls
 pub mod Stepping
 pub mod Drafts

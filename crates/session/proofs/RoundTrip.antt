@@ -7,10 +7,10 @@ use Prim.Native.Nat.{ℕ, _<_, _≤_}
 use native.Mathlib.Omega.{arith}
 use lib.ListN.{length, length-append}
 use Rattle.words.specs.Lists.{_among_}
-use Rattle.words.specs.Words.{Word, Bytes}
+use Rattle.words.specs.Words.{Bytes}
 use Rattle.meaning.specs.Table.{Table, Good, edition1}
-use Rattle.meaning.specs.Trails.{Trail, ground, over, Pair, Link, on, linkOf}
-use Rattle.session.specs.Sessions.{Entry, Session, Has, Spells, Ranges, Sound, trails}
+use Rattle.meaning.specs.Trails.{ground, Pair, Link, on, linkOf}
+use Rattle.session.specs.Sessions.{Entry, Session, Ranges, Sound, trails}
 use Rattle.session.specs.Bytes.{pieceRoom, sessionOf, belowBytes, linkBytes, bytesOf, SoundBytes}
 use Rattle.session.proofs.Bytes.{none-some, bytes-same}
 use Rattle.session.proofs.Soundly.{Rooted, lies-rooted}
