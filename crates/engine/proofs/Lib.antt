@@ -13,4 +13,5 @@ pub mod Number
 pub mod Bounds
 pub mod Stepped
 pub mod Told
+pub mod Tested
 mod Worked
