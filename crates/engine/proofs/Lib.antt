@@ -14,4 +14,6 @@ pub mod Bounds
 pub mod Stepped
 pub mod Told
 pub mod Tested
+pub mod Numbers
+pub mod Written
 mod Worked

@@ -4,7 +4,7 @@ use mathlib.Core.Path.{_≡_}
 use mathlib.Core.Logic.{_⊎_, _↔_}
 use mathlib.Core.Option.{Option, some, none}
 use mathlib.Core.List.{List, [], _∷_}
-use Prim.Native.Nat.{ℕ, zero, suc, _+_, _*_, _<_, _≤_}
+use Prim.Native.Nat.{ℕ, zero, suc, _+_, _*_, _/_, _%_, _<_, _≤_}
 use lib.ListN.{length, getD, take, drop}
 use Rattle.words.specs.Words.{Word, Bytes}
 use Rattle.meaning.specs.Trails.{Pair, Link}
@@ -85,3 +85,21 @@ pub record Filled (work : List ℕ) (s key : ℕ) (piece : Word) (work′ : List
   pub long : lengthIn work′ s ≡ length piece
   pub is : pieceIn work′ s ≡ piece
   pub others : (k : ℕ) → (k < slotStart s) ⊎ (slotStart (s + 1) ≤ k) → byte work′ k ≡ byte work k
+
+-- the bytes of a word were written from a place on
+pub record Written (work : List ℕ) (at : ℕ) (w : Word) (work′ : List ℕ) : Type 0 where
+  pub whole : length work′ ≡ length work
+  pub here : (i : ℕ) → i < length w → byte work′ (at + i) ≡ byte w i
+  pub others : (k : ℕ) → (k < at) ⊎ (at + length w ≤ k) → byte work′ k ≡ byte work k
+
+-- the bytes of a slot before its piece: of a link's number, the first byte first, and of a length
+abbrev pub headBytes : ℕ → ℕ → Word
+headBytes key n =
+    key / 4294967296
+    ∷ key / 16777216 % 256
+    ∷ key / 65536 % 256
+    ∷ key / 256 % 256
+    ∷ key % 256
+    ∷ n % 256
+    ∷ n / 256
+    ∷ []

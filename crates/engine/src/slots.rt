@@ -5,9 +5,12 @@ use session::links::seat_from;
 use table::load_two;
 use words::wide;
 ghost use mathlib.Core.Path.{_≡_};
-ghost use Prim.Native.Nat.{_≤_, _<_};
+ghost use mathlib.Core.List.{_++_};
+ghost use Prim.Native.Nat.{_+_, _≤_, _<_};
+ghost use lib.ListN.{length};
 ghost use Rattle.session.specs.Numbers.{seatFrom, footFrom, keyFrom};
-ghost use Rattle.engine.specs.Drafts.{slotStart, draftRoom, lengthIn, pieceIn, slotOf};
+ghost use Rattle.engine.specs.Drafts.{slotStart, draftRoom, lengthIn, pieceIn, slotOf, Filled, Written};
+ghost use Rattle.engine.specs.Drafts.{headBytes};
 
 // How many bytes a slot has, where its length and its piece start, and how many bytes there are.
 const WIDTH: usize = 776;
@@ -62,4 +65,45 @@ pub fn piece(work: &[u8; WORK], s: usize) -> &[u8]
     let end = start + length(work, s);
     let all = &work[..];
     &all[start..end]
+}
+
+// Writes the link of a number, and a piece in three parts, into a slot.
+pub fn fill(work: &mut [u8; WORK], s: usize, key: usize, a: &[u8], b: &[u8], c: &[u8])
+    requires { ⌜ (s < 64) × (key < 1099511627776) × (length (now a) + length (now b) + length (now c) ≤ draftRoom) ⌝ }
+    ensures { λ _. ⌜ Filled (now (work .entry)) s key (now (a .entry) ++ now (b .entry) ++ now (c .entry)) (now (work .exit)) ⌝ }
+{
+    let start = WIDTH * s;
+    let second = start + PIECE + a.len();
+    let third = second + b.len();
+    let all = &mut work[..];
+    write_head(all, start, key, a.len() + b.len() + c.len());
+    copy_in(all, start + PIECE, a);
+    copy_in(all, second, b);
+    copy_in(all, third, c);
+}
+
+// The bytes of a slot before its piece: five of the link, two of the length.
+fn write_head(work: &mut [u8], at: usize, key: usize, n: usize)
+    requires { ⌜ (at + 7 ≤ length (now work)) × (key < 1099511627776) × (n < 65536) ⌝ }
+    ensures { λ _. ⌜ Written (now (work .entry)) at (headBytes key n) (now (work .exit)) ⌝ }
+{
+    work[at] = (key / 4294967296) as u8;
+    work[at + 1] = (key / 16777216 % 256) as u8;
+    work[at + 2] = (key / 65536 % 256) as u8;
+    work[at + 3] = (key / 256 % 256) as u8;
+    work[at + 4] = (key % 256) as u8;
+    work[at + 5] = (n % 256) as u8;
+    work[at + 6] = (n / 256) as u8;
+}
+
+// The bytes of a part, from a place on.
+fn copy_in(work: &mut [u8], at: usize, part: &[u8])
+    requires { ⌜ at + length (now part) ≤ length (now work) ⌝ }
+    ensures { λ _. ⌜ Written (now (work .entry)) at (now (part .entry)) (now (work .exit)) ⌝ }
+{
+    let mut i: usize = 0;
+    while i < part.len() {
+        work[at + i] = part[i];
+        i += 1;
+    }
 }
