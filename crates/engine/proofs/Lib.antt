@@ -16,4 +16,5 @@ pub mod Told
 pub mod Tested
 pub mod Numbers
 pub mod Written
+pub mod Drafted
 mod Worked
