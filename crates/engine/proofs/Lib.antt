@@ -17,4 +17,6 @@ pub mod Tested
 pub mod Numbers
 pub mod Written
 pub mod Drafted
+pub mod Over
+pub mod Lowered
 mod Worked

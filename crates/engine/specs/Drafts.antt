@@ -3,15 +3,20 @@
 use mathlib.Core.Path.{_≡_}
 use mathlib.Core.Logic.{_⊎_, _↔_}
 use mathlib.Core.Option.{Option, some, none}
-use mathlib.Core.List.{List, [], _∷_}
+use mathlib.Core.List.{List, [], _∷_, _++_}
 use Prim.Native.Nat.{ℕ, zero, suc, _+_, _*_, _/_, _%_, _<_, _≤_}
 use lib.ListN.{length, getD, take, drop}
+use Rattle.words.specs.Lists.{_among_}
 use Rattle.words.specs.Words.{Word, Bytes}
 use Rattle.meaning.specs.Trails.{Pair, Link}
 use Rattle.meaning.specs.Answers.{linksCap}
 use Rattle.table.specs.File.{byte, two}
 use Rattle.session.specs.Sessions.{Entry, entry}
-use Rattle.session.specs.Bytes.{linkFrom, NoneBelow}
+use Rattle.session.specs.Bytes.{linkFrom, linkAt, NoneBelow, sessionOf}
+use Rattle.session.specs.Numbers.{seatAt, footFrom}
+use Rattle.engine.specs.Stepping.{lower, shake}
+use Rattle.engine.specs.declared.lower.Shaken.{Shaken}
+use Rattle.engine.specs.declared.lower.Shaken.the-variants.{Full, Drafted}
 
 abbrev pub slotStart : ℕ → ℕ
 slotStart s = 776 * s
@@ -103,3 +108,29 @@ headBytes key n =
     ∷ n % 256
     ∷ n / 256
     ∷ []
+
+-- a draft has this foot
+abbrev pub Footed : List ℕ → List ℕ → ℕ → ℕ → Type 0
+Footed work order n seat = (i : ℕ) × (i < n) × (footFrom work (slotStart (slotOf order i)) ≡ seat)
+
+-- a link of a session is below a depth, and a draft stands on it
+abbrev pub Stays : List ℕ → ℕ → ℕ → List ℕ → List ℕ → ℕ → Type 0
+Stays session i d work order n = (linkAt session i .level < d) × Footed work order n (seatAt session i)
+
+-- all links of a list are at one level
+abbrev pub AllAt : ℕ → List Entry → Type 0
+AllAt d E = (e : Entry) → e among E → e .link .level ≡ d
+
+-- one entry more is drafted, in front of the others
+pub record OneMore (e : Entry) (work order : List ℕ) (n : ℕ) (work′ order′ : List ℕ) : Type 0 where
+  pub drafts : Drafts work′ order′ (n + 1)
+  pub are : draftsOf work′ order′ (n + 1) ≡ e ∷ draftsOf work order n
+
+-- of the lower entries of a session and those over them, what is left once shaken
+abbrev pub shakenOver : List ℕ → ℕ → List Entry → List Entry
+shakenOver session d E = shake d (lower d (sessionOf session .entries) ++ E)
+
+-- what shaking answers of what is left: it is drafted, or has more than there are slots for
+abbrev pub ShakenTo : List Entry → List ℕ → List ℕ → Shaken → Type 0
+ShakenTo E work order Full = linksCap < length E
+ShakenTo E work order (Drafted n) = Drafts work order n × (draftsOf work order n ≡ E)

@@ -1,2 +1,3 @@
 // One symbol in, the bytes that all runs agree on out.
+mod lower;
 mod slots;
