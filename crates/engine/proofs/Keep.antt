@@ -28,10 +28,10 @@ pub record Clash (E : List Entry) : Type 0 where
 abbrev pub Linked : List Entry → Link → Type 0
 Linked E l = (x : Word) × (entry l x among E)
 
-abbrev Differs : Entry → Entry → Type 0
+abbrev pub Differs : Entry → Entry → Type 0
 Differs e f = (entryKey e ≡ entryKey f) × (e .piece ≡ f .piece → ⊥)
 
-clashes-exact : (e : Entry) (k : List Entry) → Exact ((f : Entry) × (f among k) × Differs e f) (clashes e k)
+pub clashes-exact : (e : Entry) (k : List Entry) → Exact ((f : Entry) × (f among k) × Differs e f) (clashes e k)
 clashes-exact e k =
     any-exact k (λ f m. and-exact (same-exact (entryKey e) (entryKey f)) (not-exact (same-exact (e .piece) (f .piece))))
 

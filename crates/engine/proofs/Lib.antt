@@ -19,4 +19,6 @@ pub mod Written
 pub mod Drafted
 pub mod Over
 pub mod Lowered
+pub mod Putting
+pub mod Turns
 mod Worked

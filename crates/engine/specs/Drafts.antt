@@ -2,12 +2,14 @@
 -- 768 places for a piece; and the order in which the slots are read, the last link first.
 use mathlib.Core.Path.{_≡_}
 use mathlib.Core.Logic.{_⊎_, _↔_}
+use mathlib.Core.Bool.{Bool, true, false}
 use mathlib.Core.Option.{Option, some, none}
 use mathlib.Core.List.{List, [], _∷_, _++_}
 use Prim.Native.Nat.{ℕ, zero, suc, _+_, _*_, _/_, _%_, _<_, _≤_}
 use lib.ListN.{length, getD, take, drop}
 use Rattle.words.specs.Lists.{_among_}
 use Rattle.words.specs.Words.{Word, Bytes}
+use Rattle.words.specs.Order.{put}
 use Rattle.meaning.specs.Trails.{Pair, Link}
 use Rattle.meaning.specs.Answers.{linksCap}
 use Rattle.table.specs.File.{byte, two}
@@ -17,6 +19,11 @@ use Rattle.session.specs.Numbers.{seatAt, footFrom}
 use Rattle.engine.specs.Stepping.{lower, shake}
 use Rattle.engine.specs.declared.lower.Shaken.{Shaken}
 use Rattle.engine.specs.declared.lower.Shaken.the-variants.{Full, Drafted}
+use Rattle.session.specs.Bytes.{linkFrom, NoneBelow}
+use Rattle.session.specs.Numbers.{keyFrom}
+use Rattle.engine.specs.Stepping.{entryKey, clashes}
+use Rattle.engine.specs.declared.keeping.Keeping.{Keeping}
+use Rattle.engine.specs.declared.keeping.Keeping.the-variants.{Same, Other, New, Full}
 
 abbrev pub slotStart : ℕ → ℕ
 slotStart s = 776 * s
@@ -134,3 +141,44 @@ shakenOver session d E = shake d (lower d (sessionOf session .entries) ++ E)
 abbrev pub ShakenTo : List Entry → List ℕ → List ℕ → Shaken → Type 0
 ShakenTo E work order Full = linksCap < length E
 ShakenTo E work order (Drafted n) = Drafts work order n × (draftsOf work order n ≡ E)
+-- the place of a number among the drafts: those before it have a greater one
+pub record Place (work order : List ℕ) (n key at : ℕ) : Type 0 where
+  pub within : at ≤ n
+  pub above : (i : ℕ) → i < at → key < keyFrom work (slotStart (slotOf order i))
+  pub here : at < n → keyFrom work (slotStart (slotOf order at)) ≤ key
+
+-- the slot `n` is read at a place, and those that were from there on one later
+pub record Inserted (order : List ℕ) (n at : ℕ) (order′ : List ℕ) : Type 0 where
+  pub whole : length order′ ≡ length order
+  pub before : (i : ℕ) → i < at → slotOf order′ i ≡ slotOf order i
+  pub here : slotOf order′ at ≡ n
+  pub after : (i : ℕ) → at ≤ i → i < n → slotOf order′ (i + 1) ≡ slotOf order i
+
+-- what became of an entry: its link is there, with another piece or not; it was put at its place; or no slot is left
+pub record Stays (other : Bool) (work order : List ℕ) (n : ℕ) (e : Entry) (work′ order′ : List ℕ) : Type 0 where
+  pub clash : clashes e (draftsOf work order n) ≡ other
+  pub is : put entryKey e (draftsOf work order n) ≡ draftsOf work order n
+  pub same-work : work′ ≡ work
+  pub same-order : order′ ≡ order
+
+pub record Placed (work order : List ℕ) (n : ℕ) (e : Entry) (work′ order′ : List ℕ) : Type 0 where
+  pub clash : clashes e (draftsOf work order n) ≡ false
+  pub is : draftsOf work′ order′ (n + 1) ≡ put entryKey e (draftsOf work order n)
+  pub drafts : Drafts work′ order′ (n + 1)
+
+pub record NoSlot (work order : List ℕ) (n : ℕ) (e : Entry) (work′ order′ : List ℕ) : Type 0 where
+  pub clash : clashes e (draftsOf work order n) ≡ false
+  pub full : n ≡ linksCap
+  pub long : length (put entryKey e (draftsOf work order n)) ≡ linksCap + 1
+  pub same-work : work′ ≡ work
+  pub same-order : order′ ≡ order
+
+abbrev pub Became : Keeping → List ℕ → List ℕ → ℕ → Entry → List ℕ → List ℕ → Type 0
+Became Same = Stays false
+Became Other = Stays true
+Became New = Placed
+Became Full = NoSlot
+
+-- that, of the entry with a piece and the link of a number
+pub record PutIn (work order : List ℕ) (n key : ℕ) (piece : Word) (r : Keeping) (work′ order′ : List ℕ) : Type 0 where
+  pub became : (l : Link) → Plain l → linkNo l ≡ key → Became r work order n (entry l piece) work′ order′

@@ -1,3 +1,4 @@
 // One symbol in, the bytes that all runs agree on out.
 mod lower;
+mod keeping;
 mod slots;

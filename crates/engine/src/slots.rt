@@ -70,7 +70,8 @@ pub fn piece(work: &[u8; WORK], s: usize) -> &[u8]
 // Writes the link of a number, and a piece in three parts, into a slot.
 pub fn fill(work: &mut [u8; WORK], s: usize, key: usize, a: &[u8], b: &[u8], c: &[u8])
     requires { ⌜ (s < 64) × (key < 1099511627776) × (length (now a) + length (now b) + length (now c) ≤ draftRoom) ⌝ }
-    ensures { λ _. ⌜ Filled (now (work .entry)) s key (now (a .entry) ++ now (b .entry) ++ now (c .entry)) (now (work .exit)) ⌝ }
+    ensures { λ _. ⌜ Filled (now (work .entry)) s key (now (a .entry) ++ now (b .entry) ++ now (c .entry))
+        (now (work .exit)) ⌝ }
 {
     let start = WIDTH * s;
     let second = start + PIECE + a.len();
