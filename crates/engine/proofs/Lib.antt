@@ -21,4 +21,5 @@ pub mod Over
 pub mod Lowered
 pub mod Putting
 pub mod Turns
+pub mod Rewritten
 mod Worked

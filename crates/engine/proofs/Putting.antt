@@ -22,7 +22,7 @@ use Rattle.session.specs.Bytes.{NoneBelow}
 use Rattle.session.specs.Numbers.{keyFrom}
 use Rattle.engine.specs.Stepping.{entryKey, clashes}
 use Rattle.engine.specs.Drafts.{slotStart, draftRoom, lengthIn, pieceIn, draftIn, slotOf, stacked, draftsOf}
-use Rattle.engine.specs.Drafts.{Drafts, linkNo, Plain, Filled, Place, Inserted, Stays, Placed, NoSlot}
+use Rattle.engine.specs.Drafts.{Drafts, linkNo, Plain, Filled, Place, Inserted, There, Placed, NoSlot}
 use Rattle.engine.proofs.Keep.{clashes-exact}
 use Rattle.engine.proofs.Numbers.{number-one, number-rises, from-plain, key-from}
 use Rattle.engine.proofs.Drafted.{length-stacked, stacked-in, stacked-out, stacked-same, stacked-falls}
@@ -151,7 +151,7 @@ module _ {work order : List ℕ} {n key at : ℕ} (drafts : Drafts work order n)
     stays : put entryKey (entry l piece) (draftsOf work order n) ≡ draftsOf work order n
     stays = put-there entryKey (entry l piece) draft n at there same-key after-place
 
-    pub same-piece : pieceIn work (slotOf order at) ≡ piece → Stays false work order n (entry l piece) work order
+    pub same-piece : pieceIn work (slotOf order at) ≡ piece → There false work order n (entry l piece) work order
     same-piece e =
         record {
           clash =
@@ -164,7 +164,7 @@ module _ {work order : List ℕ} {n key at : ℕ} (drafts : Drafts work order n)
           same-order = refl;
         }
 
-    pub other-piece : (pieceIn work (slotOf order at) ≡ piece → ⊥) → Stays true work order n (entry l piece) work order
+    pub other-piece : (pieceIn work (slotOf order at) ≡ piece → ⊥) → There true work order n (entry l piece) work order
     other-piece d =
         record {
           clash =

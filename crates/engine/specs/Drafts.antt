@@ -141,6 +141,7 @@ shakenOver session d E = shake d (lower d (sessionOf session .entries) ++ E)
 abbrev pub ShakenTo : List Entry → List ℕ → List ℕ → Shaken → Type 0
 ShakenTo E work order Full = linksCap < length E
 ShakenTo E work order (Drafted n) = Drafts work order n × (draftsOf work order n ≡ E)
+
 -- the place of a number among the drafts: those before it have a greater one
 pub record Place (work order : List ℕ) (n key at : ℕ) : Type 0 where
   pub within : at ≤ n
@@ -155,7 +156,7 @@ pub record Inserted (order : List ℕ) (n at : ℕ) (order′ : List ℕ) : Type
   pub after : (i : ℕ) → at ≤ i → i < n → slotOf order′ (i + 1) ≡ slotOf order i
 
 -- what became of an entry: its link is there, with another piece or not; it was put at its place; or no slot is left
-pub record Stays (other : Bool) (work order : List ℕ) (n : ℕ) (e : Entry) (work′ order′ : List ℕ) : Type 0 where
+pub record There (other : Bool) (work order : List ℕ) (n : ℕ) (e : Entry) (work′ order′ : List ℕ) : Type 0 where
   pub clash : clashes e (draftsOf work order n) ≡ other
   pub is : put entryKey e (draftsOf work order n) ≡ draftsOf work order n
   pub same-work : work′ ≡ work
@@ -174,8 +175,8 @@ pub record NoSlot (work order : List ℕ) (n : ℕ) (e : Entry) (work′ order�
   pub same-order : order′ ≡ order
 
 abbrev pub Became : Keeping → List ℕ → List ℕ → ℕ → Entry → List ℕ → List ℕ → Type 0
-Became Same = Stays false
-Became Other = Stays true
+Became Same = There false
+Became Other = There true
 Became New = Placed
 Became Full = NoSlot
 

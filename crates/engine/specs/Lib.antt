@@ -2,3 +2,4 @@
 pub mod Calls
 pub mod Stepping
 pub mod Drafts
+pub mod Writing

@@ -1,4 +1,5 @@
 // One symbol in, the bytes that all runs agree on out.
-mod lower;
 mod keeping;
+mod lower;
 mod slots;
+mod write;

@@ -7,7 +7,7 @@ use words::wide;
 ghost use mathlib.Core.Path.{_≡_};
 ghost use mathlib.Core.List.{_++_};
 ghost use Prim.Native.Nat.{_+_, _≤_, _<_};
-ghost use lib.ListN.{length};
+ghost use lib.ListN.{length, take, drop};
 ghost use Rattle.session.specs.Numbers.{seatFrom, footFrom, keyFrom};
 ghost use Rattle.engine.specs.Drafts.{slotStart, draftRoom, lengthIn, pieceIn, slotOf, Filled, Written};
 ghost use Rattle.engine.specs.Drafts.{headBytes};
@@ -56,7 +56,16 @@ pub fn length(work: &[u8; WORK], s: usize) -> usize
     load_two(&work[..], WIDTH * s + LENGTH)
 }
 
-// A drafted piece, as a part of the lent room.
+// The five bytes of a drafted link, and a drafted piece, as parts of the lent room.
+pub fn link(work: &[u8; WORK], s: usize) -> &[u8]
+    requires { ⌜ s < 64 ⌝ }
+    ensures { λ r. ⌜ now r ≡ take 5 (drop (slotStart s) (now (work .entry))) ⌝ }
+{
+    let start = WIDTH * s;
+    let all = &work[..];
+    &all[start..start + LENGTH]
+}
+
 pub fn piece(work: &[u8; WORK], s: usize) -> &[u8]
     requires { ⌜ (s < 64) × (lengthIn (now work) s ≤ draftRoom) ⌝ }
     ensures { λ r. ⌜ now r ≡ pieceIn (now (work .entry)) s ⌝ }

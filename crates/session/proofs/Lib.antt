@@ -17,4 +17,5 @@ pub mod Weighed
 pub mod Started
 pub mod Began
 pub mod Clear
+pub mod Held
 mod Worked

@@ -6,7 +6,7 @@ use mathlib.Core.List.{List}
 use Prim.Native.Nat.{ℕ, _+_, _-_, _*_, _<_, _≤_}
 use lib.Dec.{eqb}
 use lib.ListN.{length, getD, take, drop}
-use Rattle.words.specs.Words.{Bytes}
+use Rattle.words.specs.Words.{Word, Bytes}
 use Rattle.meaning.specs.Table.{Table}
 use Rattle.meaning.specs.Trails.{Link}
 use Rattle.meaning.specs.Answers.{linksCap}
@@ -14,7 +14,7 @@ use Rattle.table.specs.File.{byte}
 use Rattle.session.specs.Sessions.{Ranges, standsOn}
 use Rattle.session.specs.Soundly.{Load, most, loads}
 use Rattle.session.specs.Bytes.{linkStart, lengthStart, pieceStart, pieceRoom, size, countOf, lengthAt}
-use Rattle.session.specs.Bytes.{belowFrom, linkFrom, linkAt, NoneBelow, pieceAt, sessionOf}
+use Rattle.session.specs.Bytes.{belowFrom, linkFrom, linkAt, NoneBelow, pieceAt, sessionOf, lengthBytes}
 
 -- what the type of a session says of its bytes
 pub record Lent (bytes : List ℕ) : Type 0 where
@@ -132,3 +132,32 @@ pub record ClearBehind (bytes : List ℕ) (n : ℕ) : Type 0 where
 pub record Measured (bytes : List ℕ) : Type 0 where
   pub count : countOf bytes ≤ linksCap
   pub short : (i : ℕ) → i < countOf bytes → lengthAt bytes i ≤ pieceRoom
+
+-- a piece is no longer than there are places for, and behind it stands 0
+pub record Tidy (bytes : List ℕ) (i : ℕ) : Type 0 where
+  pub short : lengthAt bytes i ≤ pieceRoom
+  pub behind : Clear bytes (pieceEnd bytes i) (pieceStart (i + 1))
+
+-- five bytes and a word can be put at the places of a link and its piece
+pub record Ready (bytes : List ℕ) (i : ℕ) (five : List ℕ) (word : Word) : Type 0 where
+  pub range : i < linksCap
+  pub all : length five ≡ 5
+  pub short : length word ≤ pieceRoom
+  pub tidy : Tidy bytes i
+
+-- the places of a link and its piece hold five bytes and a word, with 0 behind it; two sessions hold the same there
+pub record Holds (bytes : List ℕ) (i : ℕ) (five : List ℕ) (word : Word) : Type 0 where
+  pub link : (j : ℕ) → j < 5 → byte bytes (linkStart i + j) ≡ getD five j 0
+  pub long : (j : ℕ) → j < 2 → byte bytes (lengthStart i + j) ≡ getD (lengthBytes word) j 0
+  pub piece : (j : ℕ) → j < pieceRoom → byte bytes (pieceStart i + j) ≡ getD word j 0
+
+pub record Same (bytes bytes′ : List ℕ) (i : ℕ) : Type 0 where
+  pub link : (j : ℕ) → j < 5 → byte bytes′ (linkStart i + j) ≡ byte bytes (linkStart i + j)
+  pub long : (j : ℕ) → j < 2 → byte bytes′ (lengthStart i + j) ≡ byte bytes (lengthStart i + j)
+  pub piece : (j : ℕ) → j < pieceRoom → byte bytes′ (pieceStart i + j) ≡ byte bytes (pieceStart i + j)
+
+-- five bytes and a word were put at the places of a link and its piece, and all other links and pieces are as they were
+pub record Put (bytes : List ℕ) (i : ℕ) (five : List ℕ) (word : Word) (bytes′ : List ℕ) : Type 0 where
+  pub whole : length bytes′ ≡ length bytes
+  pub here : Holds bytes′ i five word
+  pub others : (k : ℕ) → k < linksCap → (k ≡ i → ⊥) → Same bytes bytes′ k

@@ -3,6 +3,7 @@ use crate::links::foot_from;
 use crate::links::key_from;
 use crate::links::seat_from;
 use table::load_two;
+use words::copy;
 use words::wide;
 ghost use mathlib.Core.Path.{_≡_};
 ghost use Prim.Native.Nat.{_+_, _≤_, _<_};
@@ -11,9 +12,9 @@ ghost use lib.ListN.{set};
 ghost use Rattle.table.specs.File.{byte};
 ghost use Rattle.session.specs.Sessions.{started};
 ghost use Rattle.session.specs.Bytes.{linkStart, lengthStart, pieceStart, pieceRoom, size, countOf, lengthAt};
-ghost use Rattle.session.specs.Bytes.{belowAt, linkAt, pieceAt, bytesOf};
+ghost use Rattle.session.specs.Bytes.{belowAt, linkAt, pieceAt, noEntry, linkBytes, bytesOf};
 ghost use Rattle.session.specs.Numbers.{Lent, seatAt, footAt, keyAt, headAt, linksEnd, lengthsEnd, pieceEnd};
-ghost use Rattle.session.specs.Numbers.{piecesEnd, between};
+ghost use Rattle.session.specs.Numbers.{piecesEnd, between, Tidy, Ready, Put};
 
 // Where links, lengths and pieces start, how many places a piece has, and how many bytes there are.
 const LINKS: usize = 2;
@@ -180,4 +181,42 @@ pub fn add_start(session: &mut [u8; SIZE], i: usize, state: u8)
 {
     session[1] = (i + 1) as u8;
     session[LINKS + 5 * i + 1] = state;
+}
+
+// A link's five bytes and a piece at their places, with 0 behind it where the piece before was longer.
+pub fn put_entry(session: &mut [u8; SIZE], i: usize, link: &[u8], piece: &[u8])
+    requires { ⌜ Ready (now session) i (now link) (now piece) ⌝ }
+    ensures { λ _. ⌜ Put (now (session .entry)) i (now (link .entry)) (now (piece .entry)) (now (session .exit)) ⌝ }
+{
+    let old = piece_length(session, i);
+    let n = piece.len();
+    let start = PIECES + ROOM * i;
+    let all = &mut session[..];
+    copy(all, LINKS + 5 * i, link);
+    all[LENGTHS + 2 * i] = (n % 256) as u8;
+    all[LENGTHS + 2 * i + 1] = (n / 256) as u8;
+    copy(all, start, piece);
+    if old <= n {
+        return;
+    }
+    words::clear(all, start + n, old - n);
+}
+
+// No link and no piece at a place.
+pub fn clear_entry(session: &mut [u8; SIZE], i: usize)
+    requires { ⌜ (i < 64) × Tidy (now session) i ⌝ }
+    ensures { λ _. ⌜ Put (now (session .entry)) i (linkBytes (noEntry .link)) [] (now (session .exit)) ⌝ }
+{
+    let zeros = [0u8; 5];
+    let none = &zeros[..];
+    put_entry(session, i, none, &none[0..0]);
+}
+
+// The depth, and how many links there are.
+pub fn put_head(session: &mut [u8; SIZE], depth: usize, count: usize)
+    requires { ⌜ (depth < 256) × (count < 256) ⌝ }
+    ensures { λ _. ⌜ now (session .exit) ≡ set (set (now (session .entry)) 0 depth) 1 count ⌝ }
+{
+    session[0] = depth as u8;
+    session[1] = count as u8;
 }

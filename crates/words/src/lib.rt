@@ -2,11 +2,14 @@
 // Each function comes with the crate that needs it.
 mod all_bytes;
 mod byte_order;
+mod writing;
 
 pub use all_bytes::together;
 pub use all_bytes::zeros;
 pub use byte_order::Order;
 pub use byte_order::compare;
+pub use writing::clear;
+pub use writing::copy;
 ghost use mathlib.Core.Path.{_≡_};
 ghost use Prim.Native.Nat.{_<_};
 

@@ -1,0 +1,36 @@
+-- `engine::write::write` meets its contract: all places are written, and the depth and the count. Assumes nothing.
+use mathlib.Core.Path.{_∙_}
+use native.Mathlib.Omega.{arith}
+use borrow.Author.Needs.{needs}
+use Rattle.session.proofs.Held.{tidy-kept}
+use Rattle.engine.proofs.Rewritten.{written-all}
+use Rattle.engine.proofs.write.write.Statement.{statement}
+use Rattle.engine.proofs.write.write.Tie as tie
+
+count-requires : tie.Need-count-requires
+count-requires c κs = search needs
+
+larger-requires : tie.Need-larger-requires
+larger-requires c κs = search needs
+
+write-places-requires : tie.Need-write-places-requires
+write-places-requires c κs =
+    let pre = c .before .before .before .before .pre in
+    ((omega arith, λ i lt. tidy-kept (pre .0) i (omega arith)), pre .1)
+
+put-head-requires : tie.Need-put-head-requires
+put-head-requires c κs = search needs
+
+returns : tie.Need-returns
+returns c =
+    let written = c .before .before in
+    let larger = written .before .before in
+    let start = larger .before .before .before in
+    c .put-head .ensures
+    ∙ written-all (start .args .depth) (start .pre .1) (start .pre .0) (larger .larger .ensures .0)
+    (omega arith) (written .write-places .ensures)
+
+pub write-spec : {M : Type 1} → statement M
+write-spec =
+    tie.close
+    (tie.spec count-requires larger-requires write-places-requires put-head-requires returns)

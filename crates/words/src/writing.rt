@@ -1,0 +1,29 @@
+// Writing a part of a slice, and nothing else of it.
+ghost use mathlib.Core.Path.{_≡_};
+ghost use Prim.Native.Nat.{_+_, _≤_};
+ghost use lib.ListN.{length, replicate};
+ghost use lib.Seq.{paste};
+
+// All of `part`, from a place on.
+pub fn copy(to: &mut [u8], at: usize, part: &[u8])
+    requires { ⌜ at + length (now part) ≤ length (now to) ⌝ }
+    ensures { λ _. ⌜ now (to .exit) ≡ paste (now (to .entry)) at (now (part .entry)) (length (now (part .entry))) ⌝ }
+{
+    let mut i = 0;
+    while i < part.len() {
+        to[at + i] = part[i];
+        i += 1;
+    }
+}
+
+// As many zeros, from a place on.
+pub fn clear(to: &mut [u8], at: usize, many: usize)
+    requires { ⌜ at + many ≤ length (now to) ⌝ }
+    ensures { λ _. ⌜ now (to .exit) ≡ paste (now (to .entry)) at (replicate many 0) many ⌝ }
+{
+    let mut i = 0;
+    while i < many {
+        to[at + i] = 0;
+        i += 1;
+    }
+}
