@@ -7,8 +7,8 @@ use mathlib.Core.List.{Memᴰ·append-left}
 use mathlib.Core.Logic.{_↔_}
 use Prim.Native.Nat.{ℕ}
 use lib.Dec.{eqb}
-use lib.ListN.{length, drop}
-use lib.Seq.{drop-append-seam}
+use lib.ListN.{length, take, drop}
+use lib.Seq.{take-append-seam, drop-append-seam}
 use borrow.Author.Tests.{eqb-true, eq-eqb}
 use Rattle.words.specs.Lists.{_among_}
 use Rattle.words.specs.Words.{Word, Begins, shared, commonOf, common}
@@ -77,6 +77,9 @@ begins-ahead z {xs} p = begins (p .rest) (append-assoc z xs (p .rest) ∙ ap (λ
 -- a beginning and the word less that beginning make up the word
 pub begins-drop : {xs ys : Word} → Begins xs ys → xs ++ drop (length xs) ys ≡ ys
 begins-drop {xs} p = rw (← p .joins) (ap (λ (l : Word). xs ++ l) (drop-append-seam xs (p .rest)))
+
+pub begins-take : {xs ys : Word} → Begins xs ys → take (length xs) ys ≡ xs
+begins-take {xs} p = rw (← p .joins) (take-append-seam xs (p .rest))
 
 -- what is longer does not begin it
 longer-not : (x : ℕ) (xs : Word) → Begins (xs ++ x ∷ []) xs → ⊥

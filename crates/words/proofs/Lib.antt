@@ -1,6 +1,7 @@
 -- What follows of words, one family of facts a file: what is among lists; the longest common beginning; byte order and
 -- rising lists; the only rising list with given members; what tests say exactly; what bytes make
 -- together; bytes that are all 0; parts written into a list; what `compare` answers.
+-- together; bytes that are all 0; what `compare` and `common_length` answer.
 pub mod Lists
 pub mod Common
 pub mod Order
@@ -10,3 +11,4 @@ pub mod Below
 pub mod Cleared
 pub mod Pasted
 pub mod Calls
+pub mod Agreed

@@ -1,11 +1,13 @@
 // Byte strings: the longest common beginning, byte order, rising lists, with the laws that the crates above use.
 // Each function comes with the crate that needs it.
 mod all_bytes;
+mod beginning;
 mod byte_order;
 mod writing;
 
 pub use all_bytes::together;
 pub use all_bytes::zeros;
+pub use beginning::common_length;
 pub use byte_order::Order;
 pub use byte_order::compare;
 pub use writing::clear;
