@@ -22,4 +22,5 @@ pub mod Lowered
 pub mod Putting
 pub mod Turns
 pub mod Rewritten
+pub mod Groups
 mod Worked

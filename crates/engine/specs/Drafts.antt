@@ -3,17 +3,21 @@
 use mathlib.Core.Path.{_≡_}
 use mathlib.Core.Logic.{_⊎_, _↔_}
 use mathlib.Core.Bool.{Bool, true, false}
+use mathlib.Core.Bool.{Bool, cond}
 use mathlib.Core.Option.{Option, some, none}
 use mathlib.Core.List.{List, [], _∷_, _++_}
 use Prim.Native.Nat.{ℕ, zero, suc, _+_, _*_, _/_, _%_, _<_, _≤_}
+use lib.Dec.{eqb}
 use lib.ListN.{length, getD, take, drop}
 use Rattle.words.specs.Lists.{_among_}
 use Rattle.words.specs.Words.{Word, Bytes}
 use Rattle.words.specs.Order.{put}
+use Rattle.words.specs.Words.{Word, Bytes, shared, common}
 use Rattle.meaning.specs.Trails.{Pair, Link}
 use Rattle.meaning.specs.Answers.{linksCap}
 use Rattle.table.specs.File.{byte, two}
 use Rattle.session.specs.Sessions.{Entry, entry}
+use Rattle.session.specs.Soundly.{piecesOn}
 use Rattle.session.specs.Bytes.{linkFrom, linkAt, NoneBelow, sessionOf}
 use Rattle.session.specs.Numbers.{seatAt, footFrom}
 use Rattle.engine.specs.Stepping.{lower, shake}
@@ -183,3 +187,35 @@ Became Full = NoSlot
 -- that, of the entry with a piece and the link of a number
 pub record PutIn (work order : List ℕ) (n key : ℕ) (piece : Word) (r : Keeping) (work′ order′ : List ℕ) : Type 0 where
   pub became : (l : Link) → Plain l → linkNo l ≡ key → Became r work order n (entry l piece) work′ order′
+-- a slot has a piece
+pub record Holds (work : List ℕ) (s : ℕ) : Type 0 where
+  pub whole : length work ≡ workSize
+  pub within : s < linksCap
+  pub short : lengthIn work s ≤ draftRoom
+
+-- what a draft stands on, as a number; and a test for the drafted links with one foot
+abbrev pub footOf : List ℕ → List ℕ → ℕ → ℕ
+footOf work order i = footFrom work (slotStart (slotOf order i))
+
+abbrev pub PicksFoot : List ℕ → List ℕ → ℕ → ℕ → (Link → Bool) → Type 0
+PicksFoot work order n foot test =
+    (i : ℕ) → i < n → test (draftIn work (slotOf order i) .link) ≡ eqb (footOf work order i) foot
+
+-- the first of the drafts with one foot, `n` where there is none
+pub record FirstOn (work order : List ℕ) (n foot r : ℕ) : Type 0 where
+  pub within : r ≤ n
+  pub before : (k : ℕ) → k < r → footOf work order k ≡ foot → ⊥
+  pub found : r < n → footOf work order r ≡ foot
+
+-- how much is left of `long` bytes of the piece in slot `t`, where the draft in slot `s` has the foot
+unfoldable pub narrowedTo : List ℕ → ℕ → ℕ → ℕ → ℕ → ℕ
+narrowedTo work s foot t long =
+    cond (eqb (footFrom work (slotStart s)) foot) (length (shared (pieceIn work s) (take long (pieceIn work t)))) long
+
+-- what the pieces of the drafts with one foot have in common is a beginning of the piece in a slot, which is that of a
+-- draft
+pub record CommonOn (work order : List ℕ) (n foot slot long : ℕ) : Type 0 where
+  pub place : 0 < n → (i : ℕ) × (i < n) × (slotOf order i ≡ slot)
+  pub short : long ≤ lengthIn work slot
+  pub is : (test : Link → Bool) → PicksFoot work order n foot test
+      → common (piecesOn test (draftsOf work order n)) ≡ take long (pieceIn work slot)
