@@ -1,16 +1,18 @@
 -- What the pieces of the drafts with one foot have in common, draft by draft. Assumes nothing.
 use mathlib.Core.Path.{_≡_, refl, sym, _∙_, ap}
+use mathlib.Core.Logic.{_⊎_, inl, inr}
 use mathlib.Core.Bool.{Bool, true, false, cond, false≢true}
 use mathlib.Core.List.{List, [], _∷_, _++_}
 use Prim.Native.Nat.{ℕ, zero, suc, _+_, _≤_, _<_}
 use native.Mathlib.Omega.{arith}
+use native.Mathlib.Nat.{eq-zero-or-pos}
 use native.Mathlib.Numerals.{add-one}
 use lib.Dec.{eqb}
 use lib.ListN.{length, take, drop, length-append, length-take, length-drop}
 use lib.Seq.{take-take}
 use borrow.Author.Tests.{eq-eqb, ne-eqb}
 use Rattle.words.specs.Lists.{only, isEmpty}
-use Rattle.words.specs.Words.{Word, Begins, shared, common}
+use Rattle.words.specs.Words.{Word, Bytes, Begins, shared, common}
 use Rattle.words.proofs.Common.{shared-right, begins-take}
 use Rattle.words.proofs.Exact.{exact-same, eqb-exact}
 use Rattle.meaning.specs.Trails.{Link}
@@ -18,17 +20,19 @@ use Rattle.session.specs.Soundly.{piecesOn}
 use Rattle.session.specs.Bytes.{linkFrom}
 use Rattle.session.specs.Numbers.{seatFrom, footFrom}
 use Rattle.engine.specs.Stepping.{seat, hasFoot, base}
-use Rattle.engine.specs.Drafts.{slotStart, lengthIn, pieceIn, slotOf, draftsOf, Drafts}
+use Rattle.engine.specs.Drafts.{slotStart, lengthIn, pieceIn, slotOf, draftsOf, Reads}
 use Rattle.engine.specs.Drafts.{Holds, footOf, PicksFoot, FirstOn, narrowedTo, CommonOn}
 use Rattle.engine.specs.Drafts.{seatNo, footNo}
 use Rattle.engine.proofs.Numbers.{foot-number, lowest-number, from-plain, foot-from}
 
 -- each draft stands in a slot that has a piece, of the length that is kept
-pub holds : {work order : List ℕ} {n s i : ℕ} → Drafts work order n → i < n → s ≡ slotOf order i → Holds work s
-holds {work} {i = i} d lt e =
-    rw e (record { whole = d .whole; within = omega (arith, d .within i lt, d .few); short = d .short i lt })
+pub holds : {work order : List ℕ} {n s i : ℕ} → Reads work order n → i < n → s ≡ slotOf order i → Holds work s
+holds {work} {i = i} r lt e =
+    let d = r .drafts in
+    let l : i < r .all = omega (arith, r .within) in
+    rw e (record { whole = d .whole; within = omega (arith, d .within i l, d .few); short = d .short i l })
 
-pub holds-place : {work order : List ℕ} {n s : ℕ} → Drafts work order n → (i : ℕ) × (i < n) × (slotOf order i ≡ s)
+pub holds-place : {work order : List ℕ} {n s : ℕ} → Reads work order n → (i : ℕ) × (i < n) × (slotOf order i ≡ s)
     → Holds work s
 holds-place d p = holds d (p .1) (sym (p .2))
 
@@ -83,6 +87,7 @@ module _ {work order : List ℕ} {n foot : ℕ} where
   common-none f h e =
       record {
         place = λ lt. (0, lt, sym e);
+        some = λ lt. absurd (omega arith);
         short = omega arith;
         is = λ test p. ap common (none-before f test p n (omega arith));
       }
@@ -149,15 +154,35 @@ pub common-some : {work order : List ℕ} {n foot slot i long : ℕ} → Narrowi
     → CommonOn work order n foot slot long
 common-some {work} {order} {n} {foot} {slot} {i} {long} g le =
     let e : i ≡ n = omega (arith, g .within) in
-    record { place = λ lt. g .place; short = g .short; is = λ test p. rw e at (g .is test p .1) }
+    let h = g .place .1 in
+    record {
+      place = λ lt. g .place;
+      some = λ lt. omega arith;
+      short = g .short;
+      is = λ test p. rw e at (g .is test p .1);
+    }
+
+-- it is so long
+pub common-length : {work order : List ℕ} {n foot slot long : ℕ} → Reads work order n
+    → CommonOn work order n foot slot long → length (take long (pieceIn work slot)) ≡ long
+common-length {work} {slot = slot} {long} r c = go (eq-zero-or-pos long)
+  where
+    go : (long ≡ 0) ⊎ (0 < long) → length (take long (pieceIn work slot)) ≡ long
+    go (inl z) = omega (arith, length-take long (pieceIn work slot))
+    go (inr p) =
+        let h = piece-length (holds-place r (c .place (c .some p))) in
+        omega (arith, length-take long (pieceIn work slot), c .short)
 
 -- as it is said of lists: on the pair of a link, and at level 0
-module _ {work order : List ℕ} {n : ℕ} (d : Drafts work order n) where
+module _ {work order : List ℕ} {n : ℕ} (r : Reads work order n) where
+  small : Bytes work
+  small = r .drafts .small
+
   abbrev at : ℕ → ℕ
   at i = slotStart (slotOf order i)
 
   foot-is : (i : ℕ) → i < n → footOf work order i ≡ footNo (linkFrom work (at i))
-  foot-is i lt = foot-from work (d .small) (at i) (d .below i lt)
+  foot-is i lt = foot-from work small (at i) (r .drafts .below i (omega (arith, r .within)))
 
   pub base-seat : {foot slot long : ℕ} (s : ℕ) → foot ≡ seatFrom work (slotStart s)
       → CommonOn work order n foot slot long
@@ -169,7 +194,7 @@ module _ {work order : List ℕ} {n : ℕ} (d : Drafts work order n) where
       let k = linkFrom work (at i) in
       rw (e, foot-is i lt)
       (exact-same
-      (foot-number k l (from-plain work (d .small) (at i)) (from-plain work (d .small) (slotStart s)))
+      (foot-number k l (from-plain work small (at i)) (from-plain work small (slotStart s)))
       (eqb-exact (footNo k) (seatNo l))))
 
   pub base-bottom : {slot long : ℕ} → CommonOn work order n 0 slot long
@@ -179,4 +204,4 @@ module _ {work order : List ℕ} {n : ℕ} (d : Drafts work order n) where
       (λ i lt.
       let k = linkFrom work (at i) in
       rw (foot-is i lt)
-      (exact-same (lowest-number k (from-plain work (d .small) (at i))) (eqb-exact (footNo k) 0)))
+      (exact-same (lowest-number k (from-plain work small (at i))) (eqb-exact (footNo k) 0)))

@@ -23,4 +23,6 @@ pub mod Putting
 pub mod Turns
 pub mod Rewritten
 pub mod Groups
+pub mod Appended
+pub mod Pushing
 mod Worked

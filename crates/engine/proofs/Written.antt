@@ -144,7 +144,7 @@ module _ {work one two : List ℕ} (s key : ℕ) (piece : Word) (in-work : s < 6
       away k (inr g) = tail .others k (inr (omega arith)) ∙ head .others k (inr (omega arith))
 
 -- bytes written into bytes leave bytes
-written-small : {work two : List ℕ} {at : ℕ} {w : Word} → ((k : ℕ) → byte work k < 256) → ((k : ℕ) → byte w k < 256)
+pub written-small : {work two : List ℕ} {at : ℕ} {w : Word} → ((k : ℕ) → byte work k < 256) → ((k : ℕ) → byte w k < 256)
     → Written work at w two → Bytes two
 written-small {work} {two} {at} {w} old new a = byte-getD two (λ k. go k (below-or k at) (below-or k (at + length w)))
   where

@@ -20,7 +20,7 @@ use Rattle.session.specs.Sessions.{Entry, entry}
 use Rattle.session.specs.Soundly.{piecesOn}
 use Rattle.session.specs.Bytes.{linkFrom, linkAt, NoneBelow, sessionOf}
 use Rattle.session.specs.Numbers.{seatAt, footFrom}
-use Rattle.engine.specs.Stepping.{lower, shake}
+use Rattle.engine.specs.Stepping.{seat, lower, shake, base, push}
 use Rattle.engine.specs.declared.lower.Shaken.{Shaken}
 use Rattle.engine.specs.declared.lower.Shaken.the-variants.{Full, Drafted}
 use Rattle.session.specs.Bytes.{linkFrom, NoneBelow}
@@ -187,6 +187,12 @@ Became Full = NoSlot
 -- that, of the entry with a piece and the link of a number
 pub record PutIn (work order : List ℕ) (n key : ℕ) (piece : Word) (r : Keeping) (work′ order′ : List ℕ) : Type 0 where
   pub became : (l : Link) → Plain l → linkNo l ≡ key → Became r work order n (entry l piece) work′ order′
+-- the first `n` of the drafts
+pub record Reads (work order : List ℕ) (n : ℕ) : Type 0 where
+  pub all : ℕ
+  pub within : n ≤ all
+  pub drafts : Drafts work order all
+
 -- a slot has a piece
 pub record Holds (work : List ℕ) (s : ℕ) : Type 0 where
   pub whole : length work ≡ workSize
@@ -216,6 +222,29 @@ narrowedTo work s foot t long =
 -- draft
 pub record CommonOn (work order : List ℕ) (n foot slot long : ℕ) : Type 0 where
   pub place : 0 < n → (i : ℕ) × (i < n) × (slotOf order i ≡ slot)
+  pub some : 0 < long → 0 < n
   pub short : long ≤ lengthIn work slot
   pub is : (test : Link → Bool) → PicksFoot work order n foot test
       → common (piecesOn test (draftsOf work order n)) ≡ take long (pieceIn work slot)
+
+-- what the drafts before draft `i` that stand on its pair have in common
+abbrev pub aboveOf : List ℕ → List ℕ → ℕ → Word
+aboveOf work order i = base (draftsOf work order i) (seat (draftIn work (slotOf order i) .link))
+
+-- draft `i` got that at its end, and the others are as they were
+pub record PushedOne (work order : List ℕ) (i : ℕ) (work′ : List ℕ) : Type 0 where
+  pub drafts : (n : ℕ) → Drafts work order n → i < n → Drafts work′ order n
+  pub link : draftIn work′ (slotOf order i) .link ≡ draftIn work (slotOf order i) .link
+  pub piece : pieceIn work′ (slotOf order i) ≡ pieceIn work (slotOf order i) ++ aboveOf work order i
+  pub others : (n j : ℕ) → Drafts work order n → i < n → j < n → (j ≡ i → ⊥)
+      → draftIn work′ (slotOf order j) ≡ draftIn work (slotOf order j)
+
+-- every piece has room in a slot
+abbrev pub Short : List Entry → Type 0
+Short E = (e : Entry) → e among E → length (e .piece) ≤ draftRoom
+
+-- all drafts were pushed, and it is kept by how much
+pub record Pushed (work order : List ℕ) (n : ℕ) (work′ handed : List ℕ) : Type 0 where
+  pub drafts : Drafts work′ order n
+  pub are : draftsOf work′ order n ≡ push (draftsOf work order n)
+  pub each : (i : ℕ) → i < n → getD handed i 0 ≡ length (aboveOf work′ order i)

@@ -5,12 +5,13 @@ use session::links::seat_from;
 use table::load_two;
 use words::wide;
 ghost use mathlib.Core.Path.{_≡_};
+ghost use mathlib.Core.Logic.{_⊎_};
 ghost use mathlib.Core.List.{_++_};
 ghost use Prim.Native.Nat.{_+_, _≤_, _<_};
 ghost use lib.ListN.{length, take, drop};
 ghost use Rattle.session.specs.Numbers.{seatFrom, footFrom, keyFrom};
 ghost use Rattle.engine.specs.Drafts.{slotStart, draftRoom, lengthIn, pieceIn, slotOf, Filled, Written};
-ghost use Rattle.engine.specs.Drafts.{headBytes};
+ghost use Rattle.engine.specs.Drafts.{headBytes, Holds};
 
 // How many bytes a slot has, where its length and its piece start, and how many bytes there are.
 const WIDTH: usize = 776;
@@ -116,4 +117,33 @@ fn copy_in(work: &mut [u8], at: usize, part: &[u8])
         work[at + i] = part[i];
         i += 1;
     }
+}
+
+// So many bytes from one place to another, where the two places share none.
+fn copy_within(work: &mut [u8], from: usize, at: usize, many: usize)
+    requires { ⌜ (from + many ≤ length (now work)) × (at + many ≤ length (now work)) ⌝ }
+    requires { ⌜ (from + many ≤ at) ⊎ (at + many ≤ from) ⌝ }
+    ensures { λ _. ⌜ Written (now (work .entry)) at (take many (drop from (now (work .entry)))) (now (work .exit)) ⌝ }
+{
+    let mut i: usize = 0;
+    while i < many {
+        work[at + i] = work[from + i];
+        i += 1;
+    }
+}
+
+// Puts so many bytes of the piece in slot t behind the piece in slot s.
+pub fn append(work: &mut [u8; WORK], s: usize, t: usize, many: usize)
+    requires { ⌜ Holds (now work) s × Holds (now work) t × (s ≡ t → ⊥) ⌝ }
+    requires { ⌜ (many ≤ lengthIn (now work) t) × (lengthIn (now work) s + many ≤ draftRoom) ⌝ }
+    ensures { λ _. ⌜
+        Filled (now (work .entry)) s (keyFrom (now (work .entry)) (slotStart s))
+        (pieceIn (now (work .entry)) s ++ take many (pieceIn (now (work .entry)) t)) (now (work .exit)) ⌝ }
+{
+    let key = key(work, s);
+    let long = length(work, s);
+    let start = WIDTH * s;
+    let all = &mut work[..];
+    write_head(all, start, key, long + many);
+    copy_within(all, WIDTH * t + PIECE, start + PIECE + long, many);
 }

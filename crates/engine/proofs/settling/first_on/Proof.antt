@@ -6,6 +6,7 @@ use borrow.Author.Count.{below-more}
 use borrow.Author.Needs.{needs}
 use Rattle.session.specs.Numbers.{footFrom}
 use Rattle.engine.specs.Drafts.{slotStart, footOf}
+use Rattle.engine.proofs.Groups.{holds}
 use Rattle.engine.proofs.settling.first_on.Statement.{statement}
 use Rattle.engine.proofs.settling.first_on.Tie as tie
 
@@ -22,9 +23,7 @@ slot-requires : tie.Need-slot-requires Inv-loop μ-loop
 slot-requires c κs = search needs
 
 foot-requires : tie.Need-foot-requires Inv-loop μ-loop
-foot-requires c κs =
-    let at-loop = c .before .before in
-    omega (arith, at-loop .before .pre .within (at-loop .loop .i) (omega arith), at-loop .before .pre .few)
+foot-requires c κs = holds (c .before .before .before .pre) (omega arith) (c .slot .ensures .0) .within
 
 -- the number that is looked at is the draft's foot
 looked : (c : tie.After-foot Inv-loop μ-loop) →
