@@ -25,4 +25,6 @@ pub mod Rewritten
 pub mod Groups
 pub mod Appended
 pub mod Pushing
+pub mod Beside
+pub mod Loaded
 mod Worked

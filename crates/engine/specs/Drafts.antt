@@ -187,6 +187,7 @@ Became Full = NoSlot
 -- that, of the entry with a piece and the link of a number
 pub record PutIn (work order : List ℕ) (n key : ℕ) (piece : Word) (r : Keeping) (work′ order′ : List ℕ) : Type 0 where
   pub became : (l : Link) → Plain l → linkNo l ≡ key → Became r work order n (entry l piece) work′ order′
+
 -- the first `n` of the drafts
 pub record Reads (work order : List ℕ) (n : ℕ) : Type 0 where
   pub all : ℕ

@@ -3,3 +3,4 @@ pub mod Calls
 pub mod Stepping
 pub mod Drafts
 pub mod Writing
+pub mod Cutting
