@@ -1,11 +1,11 @@
--- By how much drafts are cut: what a draft hands down to those on it, or what is sent; and the cut drafts are the drafts,
--- cut. Assumes nothing.
-use mathlib.Core.Path.{_≡_, refl, sym, _∙_, ap, ap₂}
+-- By how much drafts are cut: by what the one below hands down, or by what is sent; and drafts cut by that are what
+-- cutting makes of them. Assumes nothing.
+use mathlib.Core.Path.{_≡_, refl, sym, _∙_, ap}
 use mathlib.Core.Logic.{_⊎_, inl, inr}
 use mathlib.Core.List.{List, [], _∷_, map}
 use Prim.Native.Nat.{ℕ, zero, suc, _+_, _<_, _≤_}
 use native.Mathlib.Omega.{arith}
-use lib.ListN.{length, getD, set, take, drop, length-take, length-append}
+use lib.ListN.{length, getD, set, drop, length-take, length-append}
 use lib.Seq.{getD-set-same, getD-set-other}
 use borrow.Author.Count.{below-more}
 use Rattle.words.specs.Words.{Word}
@@ -19,8 +19,8 @@ use Rattle.session.specs.Numbers.{seatFrom, footFrom}
 use Rattle.session.proofs.Tests.{pieces-in}
 use Rattle.session.proofs.Loads.{level-less}
 use Rattle.engine.specs.Stepping.{foot, seat, hasFoot, base, cut}
-use Rattle.engine.specs.Drafts.{slotStart, lengthIn, pieceIn, draftIn, slotOf, stacked, draftsOf, Drafts}
-use Rattle.engine.specs.Cutting.{cutDraft, cutDrafts, aboveOf, besideOf, Handed, CutTo}
+use Rattle.engine.specs.Drafts.{slotStart, lengthIn, pieceIn, draftIn, slotOf, stacked, draftsOf}
+use Rattle.engine.specs.Cutting.{cutDraft, cutDrafts, besideOf, Handed, CutTo}
 use Rattle.engine.proofs.Feet.{foot-exact, foot-own}
 use Rattle.engine.proofs.Push.{base-after}
 use Rattle.engine.proofs.Numbers.{foot-number, lowest-number, from-plain, foot-from}

@@ -1,4 +1,4 @@
--- Cut drafts weighed one after the other, from the last link to the first: what is known of those passed. Assumes nothing.
+-- Cut drafts weighed one after the other, the last link first: what is known of those passed. Assumes nothing.
 use mathlib.Core.Path.{_≡_, refl, sym, _∙_, ap}
 use mathlib.Core.Logic.{_↔_}
 use mathlib.Core.Bool.{Bool, true, false, cond}
@@ -8,18 +8,18 @@ use Prim.Native.Nat.{ℕ, zero, suc, _+_, _*_, _-_, _<_, _≤_, max}
 use native.Mathlib.Numerals.{add-one}
 use native.Mathlib.Omega.{arith}
 use lib.Dec.{eqb}
-use lib.ListN.{length, getD, set, take, drop, length-take, length-drop}
+use lib.ListN.{length, getD, set, drop, length-take, length-drop}
 use lib.Seq.{getD-set-same, getD-set-other}
 use borrow.Author.Count.{below-more}
 use borrow.Author.Tests.{eq-eqb, ne-eqb}
 use Rattle.words.proofs.Exact.{exact-as, exact-same, eqb-exact}
 use Rattle.meaning.specs.Trails.{ground, Link, linkOf}
 use Rattle.session.specs.Sessions.{onBottom, standsOn}
-use Rattle.session.specs.Soundly.{Load, most, loads, longest}
+use Rattle.session.specs.Soundly.{most, longest}
 use Rattle.session.specs.Bytes.{pair, linkFrom}
 use Rattle.session.specs.Numbers.{seatFrom, footFrom}
 use Rattle.session.proofs.Tests.{bottom-exact}
-use Rattle.engine.specs.Drafts.{slotStart, draftRoom, lengthIn, pieceIn, slotOf, Drafts}
+use Rattle.engine.specs.Drafts.{slotStart, draftRoom, lengthIn, pieceIn, slotOf}
 use Rattle.engine.specs.Cutting.{cutDraft, cutDrafts, Weighable, cutLoads, cutLoad, CutWeighed, mostWith}
 use Rattle.engine.proofs.Feet.{seat-stands, lowest-exact}
 use Rattle.engine.proofs.Numbers.{foot-number, lowest-number, from-plain, foot-from}

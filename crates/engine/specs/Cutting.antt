@@ -1,13 +1,12 @@
--- What cutting drafts asks and answers: how much each loses in front, what is left, and the longest output that waits then.
+-- What cutting drafts asks and answers: how much each loses in front, what is left, and the longest output that waits.
 use mathlib.Core.Path.{_≡_}
-use mathlib.Core.Bool.{Bool, cond}
+use mathlib.Core.Bool.{cond}
 use mathlib.Core.Logic.{_⊎_}
 use mathlib.Core.List.{List, [], _∷_}
 use Prim.Native.Nat.{ℕ, zero, suc, _+_, _<_, _≤_, max}
 use lib.Dec.{eqb}
 use lib.ListN.{length, getD, drop}
 use Rattle.words.specs.Words.{Word}
-use Rattle.meaning.specs.Trails.{Link}
 use Rattle.session.specs.Sessions.{Entry, entry, RisesByLink, standsOn}
 use Rattle.session.specs.Soundly.{Load, most, loads}
 use Rattle.session.specs.Bytes.{linkFrom}
@@ -31,8 +30,7 @@ aboveOf work order i = base (draftsOf work order i) (seat (draftIn work (slotOf 
 abbrev pub besideOf : List ℕ → List ℕ → ℕ → ℕ → Word
 besideOf work order n i = base (draftsOf work order n) (foot (draftIn work (slotOf order i) .link))
 
--- what cutting asks: drafts that rise; how much each hands down; how much is sent; and each draft above level 0 stands on
--- one
+-- what cutting asks: drafts that rise; how much each hands down; how much is sent; and each above level 0 stands on one
 pub record Handed (work order : List ℕ) (n : ℕ) (handed : List ℕ) (out : ℕ) : Type 0 where
   pub drafts : Drafts work order n
   pub rise : RisesByLink (draftsOf work order n)
