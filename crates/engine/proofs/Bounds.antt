@@ -12,8 +12,8 @@ use lib.ListN.{length, length-append}
 use borrow.Author.Tests.{eqb-false}
 use Rattle.words.specs.Lists.{_among_}
 use Rattle.words.specs.Words.{Word, Bytes}
-use Rattle.meaning.specs.Table.{Class, unused, call, return, internal, is, Row, Table}
-use Rattle.meaning.specs.Table.{edition1, MarkFits, GoodRow, Good}
+use Rattle.meaning.specs.Table.{Class, unused, call, return, internal, is, Row, Table, edition1, MarkFits, GoodRow}
+use Rattle.meaning.specs.Table.{Good}
 use Rattle.meaning.specs.Trails.{Trail, ground, over, height, Pair, Link, on, linkOf}
 use Rattle.meaning.specs.Answers.{deeper}
 use Rattle.session.specs.Sessions.{Entry, entry, Session, Has, Spells, Ranges, Sound}

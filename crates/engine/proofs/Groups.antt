@@ -20,9 +20,8 @@ use Rattle.session.specs.Soundly.{piecesOn}
 use Rattle.session.specs.Bytes.{linkFrom}
 use Rattle.session.specs.Numbers.{seatFrom, footFrom}
 use Rattle.engine.specs.Stepping.{seat, hasFoot, base}
-use Rattle.engine.specs.Drafts.{slotStart, lengthIn, pieceIn, slotOf, draftsOf, Reads}
-use Rattle.engine.specs.Drafts.{Holds, footOf, PicksFoot, FirstOn, narrowedTo, CommonOn}
-use Rattle.engine.specs.Drafts.{seatNo, footNo}
+use Rattle.engine.specs.Drafts.{slotStart, lengthIn, pieceIn, slotOf, draftsOf, Reads, Holds, footOf, PicksFoot}
+use Rattle.engine.specs.Drafts.{FirstOn, narrowedTo, CommonOn, seatNo, footNo}
 use Rattle.engine.proofs.Numbers.{foot-number, lowest-number, from-plain, foot-from}
 
 -- each draft stands in a slot that has a piece, of the length that is kept

@@ -15,14 +15,13 @@ use Rattle.words.proofs.Lists.{any-in, any-out}
 use Rattle.words.proofs.Exact.{exact-same, and-exact, ltb-exact, yes-exact, no-exact}
 use Rattle.meaning.specs.Answers.{linksCap}
 use Rattle.session.specs.Sessions.{Entry}
-use Rattle.session.specs.Bytes.{linkStart, countOf, linkFrom, linkAt, pieceAt, entryAt, sessionOf, Kept}
-use Rattle.session.specs.Bytes.{noEntry}
+use Rattle.session.specs.Bytes.{linkStart, countOf, linkFrom, linkAt, pieceAt, entryAt, sessionOf, Kept, noEntry}
 use Rattle.session.specs.Numbers.{seatFrom, footFrom, keyAt}
 use Rattle.session.proofs.Bytes.{counted, long}
 use Rattle.session.proofs.Encoded.{getD-map-upTo}
 use Rattle.engine.specs.Stepping.{seat, hasFoot, lower, shake}
-use Rattle.engine.specs.Drafts.{slotStart, draftRoom, draftIn, slotOf, draftsOf, Drafts, Filled, Footed}
-use Rattle.engine.specs.Drafts.{Stays, AllAt, OneMore, shakenOver}
+use Rattle.engine.specs.Drafts.{slotStart, draftRoom, draftIn, slotOf, draftsOf, Drafts, Filled, Footed, Stays}
+use Rattle.engine.specs.Drafts.{AllAt, OneMore, shakenOver}
 use Rattle.engine.proofs.Shake.{shake-top}
 use Rattle.engine.proofs.Numbers.{foot-number, from-plain, key-from, foot-from}
 use Rattle.engine.proofs.Drafted.{length-stacked, stacked-in, stacked-out}

@@ -13,8 +13,8 @@ use Rattle.meaning.specs.Trails.{Link}
 use Rattle.meaning.specs.Answers.{linksCap}
 use Rattle.session.specs.Sessions.{entry}
 use Rattle.session.specs.Bytes.{NoneBelow}
-use Rattle.engine.specs.Drafts.{slotStart, draftRoom, lengthIn, draftIn, slotOf, stacked}
-use Rattle.engine.specs.Drafts.{draftsOf, Drafts, linkNo, Plain, Filled, OneMore}
+use Rattle.engine.specs.Drafts.{slotStart, draftRoom, lengthIn, draftIn, slotOf, stacked, draftsOf, Drafts}
+use Rattle.engine.specs.Drafts.{linkNo, Plain, Filled, OneMore}
 use Rattle.engine.proofs.Drafted.{stacked-same, none-stays, length-stays, draft-stays}
 
 module _ {work order work′ : List ℕ} {n key : ℕ} {piece : Word} (ok : Drafts work order n)

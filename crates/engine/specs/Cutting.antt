@@ -11,8 +11,9 @@ use Rattle.session.specs.Sessions.{Entry, entry, RisesByLink, standsOn}
 use Rattle.session.specs.Soundly.{Load, most, loads}
 use Rattle.session.specs.Bytes.{linkFrom}
 use Rattle.session.specs.Numbers.{seatFrom, footFrom}
-use Rattle.engine.specs.Stepping.{foot, seat, base}
+use Rattle.engine.specs.Stepping.{foot, base}
 use Rattle.engine.specs.Drafts.{slotStart, lengthIn, pieceIn, draftIn, slotOf, stacked, draftsOf, Drafts}
+use Rattle.engine.specs.Drafts.{aboveOf}
 
 -- a draft less so many bytes in front
 abbrev pub cutDraft : List ℕ → List ℕ → List ℕ → ℕ → Entry
@@ -21,10 +22,6 @@ cutDraft work order cuts i =
 
 abbrev pub cutDrafts : List ℕ → List ℕ → List ℕ → ℕ → List Entry
 cutDrafts work order cuts n = stacked (cutDraft work order cuts) n
-
--- what the drafts after draft i that stand on its pair have in common
-abbrev pub aboveOf : List ℕ → List ℕ → ℕ → Word
-aboveOf work order i = base (draftsOf work order i) (seat (draftIn work (slotOf order i) .link))
 
 -- by how much draft i is cut
 abbrev pub besideOf : List ℕ → List ℕ → ℕ → ℕ → Word

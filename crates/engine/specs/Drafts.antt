@@ -2,30 +2,25 @@
 -- 768 places for a piece; and the order in which the slots are read, the last link first.
 use mathlib.Core.Path.{_≡_}
 use mathlib.Core.Logic.{_⊎_, _↔_}
-use mathlib.Core.Bool.{Bool, true, false}
-use mathlib.Core.Bool.{Bool, cond}
+use mathlib.Core.Bool.{Bool, true, false, cond}
 use mathlib.Core.Option.{Option, some, none}
 use mathlib.Core.List.{List, [], _∷_, _++_}
 use Prim.Native.Nat.{ℕ, zero, suc, _+_, _*_, _/_, _%_, _<_, _≤_}
 use lib.Dec.{eqb}
 use lib.ListN.{length, getD, take, drop}
 use Rattle.words.specs.Lists.{_among_}
-use Rattle.words.specs.Words.{Word, Bytes}
-use Rattle.words.specs.Order.{put}
 use Rattle.words.specs.Words.{Word, Bytes, shared, common}
+use Rattle.words.specs.Order.{put}
 use Rattle.meaning.specs.Trails.{Pair, Link}
 use Rattle.meaning.specs.Answers.{linksCap}
 use Rattle.table.specs.File.{byte, two}
 use Rattle.session.specs.Sessions.{Entry, entry}
 use Rattle.session.specs.Soundly.{piecesOn}
 use Rattle.session.specs.Bytes.{linkFrom, linkAt, NoneBelow, sessionOf}
-use Rattle.session.specs.Numbers.{seatAt, footFrom}
-use Rattle.engine.specs.Stepping.{seat, lower, shake, base, push}
+use Rattle.session.specs.Numbers.{seatAt, footFrom, keyFrom}
+use Rattle.engine.specs.Stepping.{seat, lower, shake, base, push, entryKey, clashes}
 use Rattle.engine.specs.declared.lower.Shaken.{Shaken}
 use Rattle.engine.specs.declared.lower.Shaken.the-variants.{Full, Drafted}
-use Rattle.session.specs.Bytes.{linkFrom, NoneBelow}
-use Rattle.session.specs.Numbers.{keyFrom}
-use Rattle.engine.specs.Stepping.{entryKey, clashes}
 use Rattle.engine.specs.declared.keeping.Keeping.{Keeping}
 use Rattle.engine.specs.declared.keeping.Keeping.the-variants.{Same, Other, New, Full}
 

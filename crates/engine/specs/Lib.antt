@@ -2,5 +2,5 @@
 pub mod Calls
 pub mod Stepping
 pub mod Drafts
-pub mod Writing
 pub mod Cutting
+pub mod Writing

@@ -2,12 +2,13 @@
 use mathlib.Core.Path.{_≡_}
 use mathlib.Core.List.{List}
 use Prim.Native.Nat.{ℕ, _-_, _<_, _≤_}
-use lib.ListN.{length, getD, drop}
+use lib.ListN.{length, getD}
 use Rattle.meaning.specs.Answers.{linksCap}
-use Rattle.session.specs.Sessions.{Entry, entry, Session}
-use Rattle.session.specs.Bytes.{pieceRoom, linkFrom, noEntry, linkBytes}
+use Rattle.session.specs.Sessions.{Entry, Session}
+use Rattle.session.specs.Bytes.{pieceRoom, noEntry, linkBytes}
 use Rattle.session.specs.Numbers.{Holds, Same, Put}
-use Rattle.engine.specs.Drafts.{slotStart, lengthIn, pieceIn, slotOf, stacked, Drafts}
+use Rattle.engine.specs.Drafts.{lengthIn, slotOf, Drafts}
+use Rattle.engine.specs.Cutting.{cutDrafts}
 
 -- cuts that leave of each drafted piece no more than a session has places for
 pub record Cuts (work order cuts : List ℕ) (n : ℕ) : Type 0 where
@@ -15,14 +16,7 @@ pub record Cuts (work order cuts : List ℕ) (n : ℕ) : Type 0 where
   pub within : (i : ℕ) → i < n → getD cuts i 0 ≤ lengthIn work (slotOf order i)
   pub short : (i : ℕ) → i < n → lengthIn work (slotOf order i) - getD cuts i 0 ≤ pieceRoom
 
--- the drafts, each without what is cut in front
-abbrev pub cutDraft : List ℕ → List ℕ → List ℕ → ℕ → Entry
-cutDraft work order cuts i =
-    entry (linkFrom work (slotStart (slotOf order i))) (drop (getD cuts i 0) (pieceIn work (slotOf order i)))
-
-abbrev pub cutDrafts : List ℕ → List ℕ → List ℕ → ℕ → List Entry
-cutDrafts work order cuts n = stacked (cutDraft work order cuts) n
-
+-- the session that the drafts become, each without what is cut in front
 abbrev pub cutSession : ℕ → List ℕ → List ℕ → List ℕ → ℕ → Session
 cutSession depth work order cuts n = record { depth = depth; entries = cutDrafts work order cuts n }
 

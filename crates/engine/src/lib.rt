@@ -1,6 +1,6 @@
 // One symbol in, the bytes that all runs agree on out.
-mod keeping;
 mod cutting;
+mod keeping;
 mod lower;
 mod settling;
 mod slots;

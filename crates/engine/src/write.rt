@@ -10,7 +10,8 @@ ghost use Prim.Native.Nat.{ℕ, _≤_, _<_};
 ghost use lib.ListN.{length, drop};
 ghost use Rattle.session.specs.Bytes.{Kept, bytesOf};
 ghost use Rattle.session.specs.Numbers.{Tidy};
-ghost use Rattle.engine.specs.Writing.{Cuts, cutDrafts, cutSession, PutFrom, Written};
+ghost use Rattle.engine.specs.Writing.{Cuts, cutSession, PutFrom, Written};
+ghost use Rattle.engine.specs.Cutting.{cutDrafts};
 
 // The bytes that are sent, from the output's start.
 pub fn send(out: &mut [u8], part: &[u8])

@@ -2,7 +2,8 @@
 use Prim.Native.Nat.{_-_}
 use native.Mathlib.Omega.{arith}
 use borrow.Author.Needs.{needs}
-use Rattle.engine.proofs.Pushing.{Pushing, pushing-start, pushing-reads, pushing-room, pushing-more, pushing-all}
+use Rattle.engine.proofs.Pushing.{Pushing, pushing-start, pushing-reads, pushing-room, pushing-more}
+use Rattle.engine.proofs.Pushing.{pushing-all}
 use Rattle.engine.proofs.settling.push.Statement.{statement}
 use Rattle.engine.proofs.settling.push.Tie as tie
 

@@ -1,9 +1,8 @@
 -- `engine::slots::copy_within` meets its contract: the bytes passed are copied. Assumes nothing.
 use Prim.Native.Nat.{_-_, _≤_}
-use lib.ListN.{take, drop}
+use lib.ListN.{take, drop, length-take}
 use native.Mathlib.Omega.{arith}
 use borrow.Author.Needs.{needs}
-use lib.ListN.{length-take}
 use Rattle.engine.specs.Drafts.{Written}
 use Rattle.engine.proofs.Written.{written-none, written-all}
 use Rattle.engine.proofs.Appended.{within-more}

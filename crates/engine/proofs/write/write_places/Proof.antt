@@ -4,7 +4,8 @@ use Prim.Native.Nat.{_-_, _≤_, _<_}
 use native.Mathlib.Omega.{arith}
 use borrow.Author.Needs.{needs}
 use Rattle.session.proofs.Held.{tidy-same}
-use Rattle.engine.specs.Writing.{cutDrafts, Written}
+use Rattle.engine.specs.Writing.{Written}
+use Rattle.engine.specs.Cutting.{cutDrafts}
 use Rattle.engine.proofs.Rewritten.{written-none, written-more}
 use Rattle.engine.proofs.write.write_places.Statement.{statement}
 use Rattle.engine.proofs.write.write_places.Tie as tie
