@@ -27,4 +27,8 @@ pub mod Appended
 pub mod Pushing
 pub mod Beside
 pub mod Loaded
+pub mod Gathering
+pub mod Following
+pub mod Asked
+pub mod Ended
 mod Worked

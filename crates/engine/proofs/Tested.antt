@@ -1,28 +1,34 @@
 -- The number of a step, test by test: the first that passes gives it. Assumes nothing.
 use mathlib.Core.Path.{_≡_, _∙_}
-use mathlib.Core.Bool.{true, false, cond, _&&_}
+use mathlib.Core.Bool.{true, false, cond}
 use mathlib.Core.List.{[]}
 use Prim.Native.Nat.{ℕ, _<_, _≤_}
-use lib.Dec.{eqb, ltb}
+use lib.Dec.{ltb}
 use lib.ListN.{length}
-use borrow.Author.Tests.{lt-ltb, le-ltb}
+use borrow.Author.Tests.{lt-ltb, le-ltb, eq-eqb, ne-eqb}
 use Rattle.words.specs.Lists.{isEmpty}
-use Rattle.meaning.specs.Table.{unused, call, return, is, Table}
+use Rattle.meaning.specs.Table.{unused, call, return, internal, Table}
 use Rattle.meaning.specs.Answers.{linksCap}
 use Rattle.session.specs.Sessions.{Session}
 use Rattle.session.specs.Soundly.{longest}
+use Rattle.engine.specs.Tests.{Open}
 use Rattle.engine.specs.Stepping.{grow, kept, shaken, conflict, stepped, sent, linkNumber}
 
 module _ (T : Table) (S : Session) (a : ℕ) where
-  -- the symbol is known, and neither closes nor opens too much; then: something moves; the links are few; none clash; the
-  -- waiting outputs are short
-  pub record Open : Type 0 where
-    pub known : is (T .class a) unused ≡ false
-    pub opened : (is (T .class a) return && eqb (S .depth) 0) ≡ false
-    pub shallow : (is (T .class a) call && eqb (S .depth) (T .depthCap)) ≡ false
+  -- by class: what may follow, and what the depth forbids
+  pub open-call : T .class a ≡ call → (S .depth ≡ T .depthCap → ⊥) → Open T S a
+  open-call e n =
+      record { known = rw e; opened = rw e; shallow = rw (e, ne-eqb (S .depth) (T .depthCap) n) }
 
+  pub open-return : T .class a ≡ return → (S .depth ≡ 0 → ⊥) → Open T S a
+  open-return e n = record { known = rw e; opened = rw (e, ne-eqb (S .depth) 0 n); shallow = rw e }
+
+  pub open-internal : T .class a ≡ internal → Open T S a
+  open-internal e = record { known = rw e; opened = rw e; shallow = rw e }
+
+  -- something moves; then: the links are few; none clash; the waiting outputs are short
   pub record Moves : Type 0 where
-    pub open-to : Open
+    pub open-to : Open T S a
     pub some : isEmpty (grow T S a) ≡ false
 
   pub record Fits : Type 0 where
@@ -38,18 +44,16 @@ module _ (T : Table) (S : Session) (a : ℕ) where
     pub short : longest (stepped T S a .entries) ≤ T .waitingCap
 
   module _ (room : ℕ) where
-    pub unknown : is (T .class a) unused ≡ true → linkNumber T room S a ≡ 3
+    pub unknown : T .class a ≡ unused → linkNumber T room S a ≡ 3
     unknown e = rw e
 
-    pub unopened : is (T .class a) unused ≡ false → (is (T .class a) return && eqb (S .depth) 0) ≡ true
-        → linkNumber T room S a ≡ 4
-    unopened e f = rw (e, f)
+    pub unopened : T .class a ≡ return → S .depth ≡ 0 → linkNumber T room S a ≡ 4
+    unopened e z = rw (e, eq-eqb (S .depth) 0 z)
 
-    pub too-deep : is (T .class a) unused ≡ false → (is (T .class a) return && eqb (S .depth) 0) ≡ false
-        → (is (T .class a) call && eqb (S .depth) (T .depthCap)) ≡ true → linkNumber T room S a ≡ 5
-    too-deep e f g = rw (e, f, g)
+    pub too-deep : T .class a ≡ call → S .depth ≡ T .depthCap → linkNumber T room S a ≡ 5
+    too-deep e z = rw (e, eq-eqb (S .depth) (T .depthCap) z)
 
-    pub no-run : Open → isEmpty (grow T S a) ≡ true → linkNumber T room S a ≡ 6
+    pub no-run : Open T S a → isEmpty (grow T S a) ≡ true → linkNumber T room S a ≡ 6
     no-run o e = rw (o .known, o .opened, o .shallow, e)
 
     pub crowded : Moves → linksCap < length (shaken (kept T S a) .entries) → linkNumber T room S a ≡ 7

@@ -4,3 +4,5 @@ pub mod Stepping
 pub mod Drafts
 pub mod Cutting
 pub mod Writing
+pub mod Growing
+pub mod Tests

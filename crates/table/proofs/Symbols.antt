@@ -31,7 +31,7 @@ between-all file a =
     }
 
 module _ (file : List ℕ) (rows : Rows file) where
-  symbols-up : (m k : ℕ) → k ≤ m → m < rowCount file → rowAt file k .symbol ≤ rowAt file m .symbol
+  pub symbols-up : (m k : ℕ) → k ≤ m → m < rowCount file → rowAt file k .symbol ≤ rowAt file m .symbol
   symbols-up zero k h l = let e : k ≡ 0 = omega arith in rw e (omega arith)
   symbols-up (suc m) k h l = go (eq-zero-or-pos (suc m - k)) (symbols-up m k)
     where

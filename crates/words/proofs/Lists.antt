@@ -50,6 +50,10 @@ each-append f [] m = refl
 each-append f (x ∷ l) m = rw (each-append f l m) (sym (append-assoc (f x) (each f l) (each f m)))
 
 -- functions that agree on a list make the same of it
+pub each-map : {A B C : Type 0} (f : B → List C) (g : A → B) (l : List A) → each f (map g l) ≡ each (λ x. f (g x)) l
+each-map f g [] = refl
+each-map f g (x ∷ l) = ap (λ m. f (g x) ++ m) (each-map f g l)
+
 pub map-same : {A B : Type 0} (f g : A → B) (l : List A) → ((x : A) → x among l → f x ≡ g x) → map f l ≡ map g l
 map-same f g [] h = refl
 map-same f g (x ∷ l) h = rw (h x (List·Memᴰ·head refl), map-same f g l (λ y m. h y (List·Memᴰ·tail m)))

@@ -1,0 +1,63 @@
+-- `engine::growth::follow_return` meets its contract: what the links passed give was made. Assumes nothing.
+use Prim.Native.Nat.{_-_, _≤_}
+use native.Mathlib.Omega.{arith}
+use Rattle.engine.specs.Growing.{uncovered}
+use Rattle.engine.proofs.Gathering.{Passing, passing-start, passing-ready, passing-next}
+use Rattle.engine.proofs.Following.{return-fitting, return-end}
+use borrow.Author.Needs.{needs}
+use Rattle.engine.proofs.growth.follow_return.Statement.{statement}
+use Rattle.engine.proofs.growth.follow_return.Tie as tie
+
+abbrev Inv-loop : tie.InvT-loop
+Inv-loop file session i r work₀ order₀ n grown₀ j₀ work order grown j =
+    (j ≤ n) × Passing (uncovered file session i r) work₀ order₀ grown₀ j work order grown
+
+abbrev μ-loop : tie.MeasureT-loop
+μ-loop file session i r work₀ order₀ n grown₀ j₀ work order grown j = n - j
+
+count-requires : tie.Need-count-requires Inv-loop μ-loop
+count-requires c κs = search needs
+
+loop-holds : tie.Need-loop-holds Inv-loop μ-loop
+loop-holds c = (omega arith, passing-start)
+
+uncover-requires : tie.Need-uncover-requires Inv-loop μ-loop
+uncover-requires c κs =
+    let start = c .before .before .before .before .before .before in
+    let a = start .args in
+    let pre = start .pre in
+    let loop = c .before .before .before .loop in (
+      (pre .0 .0, pre .0 .1, pre .0 .2, omega arith),
+      (
+        passing-ready (loop .inv .1) (pre .1 .0),
+        return-fitting (a .file .now) (a .session .now) (a .i) (a .r) (loop .j) (omega arith) (pre .1 .1),
+      ),
+    )
+
+add-j : tie.Need-add-j Inv-loop μ-loop
+add-j c = search needs
+
+loop-less : tie.Need-loop-less Inv-loop μ-loop
+loop-less c = search needs
+
+loop-again : tie.Need-loop-again Inv-loop μ-loop
+loop-again c = (omega arith, passing-next (c .before .before .before .before .loop .inv .1) (c .uncover .ensures))
+
+returns : tie.Need-returns Inv-loop μ-loop
+returns c =
+    let a = c .before .before .before .before .args in
+    return-end (a .file .now) (a .session .now) (a .i) (a .r) (c .before .loop .inv .1) (omega arith)
+
+pub follow-return-spec : {M : Type 1} → statement M
+follow-return-spec =
+    tie.close
+    (tie.spec
+    Inv-loop
+    μ-loop
+    count-requires
+    loop-holds
+    uncover-requires
+    add-j
+    loop-less
+    loop-again
+    returns)

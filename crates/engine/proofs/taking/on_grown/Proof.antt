@@ -1,0 +1,52 @@
+-- `engine::taking::on_grown` meets its contract: the links of the moved trails are drafted. Assumes nothing.
+use Rattle.engine.proofs.Asked.{grew-level, grew-crowded, grew-conflict, grew-left}
+use borrow.Author.Needs.{needs}
+use Rattle.engine.proofs.taking.on_grown.Statement.{statement}
+use Rattle.engine.proofs.taking.on_grown.Tie as tie
+
+shake-requires : tie.Need-shake-requires
+shake-requires c κs =
+    let g = c .before .before .before .before .before .pre in
+    ((g .opened .ready .sound .kept, g .drafts), grew-level g)
+
+enum-told : tie.Need-enum-told
+enum-told c = search needs
+
+enum-known-n : tie.Need-enum-known-n
+enum-known-n c = search needs
+
+returns : tie.Need-returns
+returns c =
+    let shook = c .before .before .before .before in
+    let told = rw (c .before .before .n .given .1) at (shook .shake .ensures) in
+    grew-conflict (shook .before .before .before .before .before .before .pre) (told .0) (told .1) _ (c .if1 .taken)
+
+on-shaken-requires : tie.Need-on-shaken-requires
+on-shaken-requires c κs =
+    let shook = c .before .before .before .before .before .before .before .before in
+    let told = rw (c .before .before .before .before .before .before .n .given .1) at (shook .shake .ensures) in
+    grew-left (shook .before .before .before .before .before .before .pre) (told .0) (told .1) (c .before .before .before .before .if1 .left)
+
+returns-2 : tie.Need-returns-2
+returns-2 c =
+    let shook = c .before .before in
+    grew-crowded (shook .before .before .before .before .before .before .pre) _ (rw (c .enum-told .given .1) at (shook .shake .ensures))
+
+same-length : tie.Need-same-length
+same-length c = search needs
+
+returns-3 : tie.Need-returns-3
+returns-3 c = search needs
+
+pub on-grown-spec : {M : Type 1} → statement M
+on-grown-spec =
+    tie.close
+    (tie.spec
+    shake-requires
+    enum-told
+    enum-known-n
+    returns
+    on-shaken-requires
+    returns-2
+    same-length
+    returns-3)

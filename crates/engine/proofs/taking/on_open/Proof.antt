@@ -1,0 +1,51 @@
+-- `engine::taking::on_open` meets its contract. Assumes nothing.
+use native.Mathlib.Omega.{arith}
+use Rattle.engine.proofs.Asked.{opened-usable, opened-fitting, opened-none, opened-grew, opened-crowded}
+use borrow.Author.Needs.{needs}
+use Rattle.engine.proofs.taking.on_open.Statement.{statement}
+use Rattle.engine.proofs.taking.on_open.Tie as tie
+
+grow-requires : tie.Need-grow-requires
+grow-requires c κs = let o = c .before .before .before .before .before .pre in (opened-usable o, opened-fitting o)
+
+enum-told : tie.Need-enum-told
+enum-told c = search needs
+
+enum-known-count : tie.Need-enum-known-count
+enum-known-count c = search needs
+
+returns : tie.Need-returns
+returns c =
+    let grown = c .before .before .before .before in
+    let g = grown .grow .ensures .made _ _ (c .before .before .count .given .1) in
+    opened-none (grown .before .before .before .before .before .before .pre) _ g (omega arith)
+
+on-grown-requires : tie.Need-on-grown-requires
+on-grown-requires c κs =
+    let grown = c .before .before .before .before .before .before .before .before in
+    let g = grown .grow .ensures .made _ _ (c .before .before .before .before .before .before .count .given .1) in
+    opened-grew (grown .before .before .before .before .before .before .pre) g (omega arith)
+
+returns-2 : tie.Need-returns-2
+returns-2 c =
+    let grown = c .before .before in
+    opened-crowded (grown .before .before .before .before .before .before .pre) _ (grown .grow .ensures .full (c .enum-told .given .1))
+
+same-length : tie.Need-same-length
+same-length c = search needs
+
+returns-3 : tie.Need-returns-3
+returns-3 c = search needs
+
+pub on-open-spec : {M : Type 1} → statement M
+on-open-spec =
+    tie.close
+    (tie.spec
+    grow-requires
+    enum-told
+    enum-known-count
+    returns
+    on-grown-requires
+    returns-2
+    same-length
+    returns-3)

@@ -1,0 +1,69 @@
+-- `engine::taking::on_settled` meets its contract. Assumes nothing.
+use mathlib.Core.Path.{ap}
+use native.Mathlib.Omega.{arith}
+use lib.ListN.{length}
+use Rattle.engine.proofs.Ended.{settled-backlog, settled-no-room, settled-part, settled-depth, settled-cuts}
+use Rattle.engine.proofs.Ended.{settled-taken}
+use borrow.Author.Needs.{needs}
+use Rattle.engine.proofs.taking.on_settled.Statement.{statement}
+use Rattle.engine.proofs.taking.on_settled.Tie as tie
+
+waiting-cap-requires : tie.Need-waiting-cap-requires
+waiting-cap-requires c κs = search needs
+
+longest-requires : tie.Need-longest-requires
+longest-requires c κs = search needs
+
+returns : tie.Need-returns
+returns c = settled-backlog (c .before .before .before .before .before .pre) _ (omega arith)
+
+returns-2 : tie.Need-returns-2
+returns-2 c = settled-no-room (c .before .before .before .before .before .before .pre) (omega arith) _ (omega arith)
+
+piece-requires : tie.Need-piece-requires
+piece-requires c κs = search needs
+
+sub-send : tie.Need-sub-send
+sub-send c = search needs
+
+part-send-start : tie.Need-part-send-start
+part-send-start c = search needs
+
+part-send-end : tie.Need-part-send-end
+part-send-end c =
+    let tested = c .before .before in
+    omega (arith, ap length (c .before .piece .ensures), settled-part (tested .before .before .before .before .before .before .pre))
+
+send-requires : tie.Need-send-requires
+send-requires c κs = search needs
+
+write-requires : tie.Need-write-requires
+write-requires c κs =
+    let s = c .before .before .before .before .before .before .before .before .before .before .before .before .before .pre in
+    (s .left .opened .ready .sound .kept, settled-cuts s (omega arith) (c .before .before .before .before .before .before .before .before .before .before .before .before .before .args .out .now) (omega arith), settled-depth s)
+
+same-length : tie.Need-same-length
+same-length c = search needs
+
+returns-3 : tie.Need-returns-3
+returns-3 c =
+    let s = c .before .before .before .before .before .before .before .before .before .before .before .before .before .before .pre in
+    let sent = c .before .before .before .before in
+    settled-taken s (omega arith) _ (omega arith) (c .write .ensures) (sent .before .before .before .piece .ensures) (sent .send .ensures)
+
+pub on-settled-spec : {M : Type 1} → statement M
+on-settled-spec =
+    tie.close
+    (tie.spec
+    waiting-cap-requires
+    longest-requires
+    returns
+    returns-2
+    piece-requires
+    sub-send
+    part-send-start
+    part-send-end
+    send-requires
+    write-requires
+    same-length
+    returns-3)

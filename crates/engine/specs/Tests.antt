@@ -1,0 +1,70 @@
+-- What a step knows once the first of its tests have passed.
+use mathlib.Core.Path.{_≡_}
+use mathlib.Core.Bool.{Bool, false, _&&_}
+use mathlib.Core.List.{List, []}
+use Prim.Native.Nat.{ℕ, _<_, _≤_}
+use lib.Dec.{eqb}
+use lib.ListN.{length, getD, take}
+use Rattle.words.specs.Lists.{isEmpty}
+use Rattle.words.specs.Words.{Bytes}
+use Rattle.meaning.specs.Table.{unused, call, return, is, Table}
+use Rattle.meaning.specs.Answers.{linksCap, deeper}
+use Rattle.table.specs.File.{tableOf}
+use Rattle.table.specs.Good.{first, Good}
+use Rattle.session.specs.Sessions.{Session}
+use Rattle.session.specs.Bytes.{linkFrom, sessionOf, SoundBytes}
+use Rattle.engine.specs.Stepping.{grow, keep, conflict, kept, shaken, stepped, sent}
+use Rattle.engine.specs.Drafts.{slotStart, draftRoom, lengthIn, pieceIn, slotOf, draftsOf, Drafts}
+use Rattle.engine.specs.Cutting.{cutDrafts}
+
+-- the file is good, of bytes as its type says, and the session is sound for its table
+pub record Ready (file session : List ℕ) : Type 0 where
+  pub good : Good first file
+  pub small : Bytes file
+  pub sound : SoundBytes (tableOf file) session
+
+-- the symbol is known, and neither closes nor opens too much
+pub record Open (T : Table) (S : Session) (a : ℕ) : Type 0 where
+  pub known : is (T .class a) unused ≡ false
+  pub opened : (is (T .class a) return && eqb (S .depth) 0) ≡ false
+  pub shallow : (is (T .class a) call && eqb (S .depth) (T .depthCap)) ≡ false
+
+-- all this, and which depth follows
+pub record Opened (file session : List ℕ) (a depth : ℕ) : Type 0 where
+  pub ready : Ready file session
+  pub to : Open (tableOf file) (sessionOf session) a
+  pub is : depth ≡ deeper (tableOf file .class a) (sessionOf session .depth)
+
+-- what follows is drafted, each link once, and there is something; whether two clash is known
+pub record Grew (file session : List ℕ) (a depth : ℕ) (work order : List ℕ) (count : ℕ) (clash : Bool) : Type 0 where
+  pub opened : Opened file session a depth
+  pub drafts : Drafts work order count
+  pub are : draftsOf work order count ≡ keep [] (grow (tableOf file) (sessionOf session) a)
+  pub odds : clash ≡ conflict [] (grow (tableOf file) (sessionOf session) a)
+  pub some : isEmpty (grow (tableOf file) (sessionOf session) a) ≡ false
+
+-- something moves, the links of the moved trails are few, and none clash; and they are drafted
+pub record LeftOf (file session : List ℕ) (a depth : ℕ) : Type 0 where
+  pub opened : Opened file session a depth
+  pub some : isEmpty (grow (tableOf file) (sessionOf session) a) ≡ false
+  pub few : length (shaken (kept (tableOf file) (sessionOf session) a) .entries) ≤ linksCap
+  pub one : conflict [] (grow (tableOf file) (sessionOf session) a) ≡ false
+
+pub record Left (file session : List ℕ) (a depth : ℕ) (work order : List ℕ) (n : ℕ) : Type 0 where
+  pub left : LeftOf file session a depth
+  pub drafts : Drafts work order n
+  pub are : draftsOf work order n ≡ shaken (kept (tableOf file) (sessionOf session) a) .entries
+
+-- the drafts are pushed, and it is known by how much each is to be cut and what is to be sent: `long` bytes of a slot
+pub record Settled (file session : List ℕ) (a depth : ℕ) (work order : List ℕ) (n : ℕ) (cuts : List ℕ) (slot long : ℕ)
+    : Type 0 where
+  pub left : LeftOf file session a depth
+  pub drafts : Drafts work order n
+  pub enough : (i : ℕ) → i < n → getD cuts i 0 ≤ lengthIn work (slotOf order i)
+  pub lowest : (i : ℕ) → i < n → linkFrom work (slotStart (slotOf order i)) .level ≡ 0
+      → linkFrom work (slotStart (slotOf order i)) .here .marker ≡ 0
+  pub are : cutDrafts work order cuts n ≡ stepped (tableOf file) (sessionOf session) a .entries
+  pub within : slot < linksCap
+  pub short : lengthIn work slot ≤ draftRoom
+  pub part : long ≤ lengthIn work slot
+  pub is : take long (pieceIn work slot) ≡ sent (tableOf file) (sessionOf session) a

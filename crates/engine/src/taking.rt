@@ -1,0 +1,242 @@
+// One step: the tests in their order, and then the work. The session and the output are written only once all have passed.
+use crate::cutting;
+use crate::growth;
+use crate::lower;
+use crate::settling;
+use crate::slots;
+use crate::slots::WORK;
+use crate::write;
+use session::places;
+use session::places::SIZE;
+ghost use Rattle.words.specs.Words.{Bytes};
+ghost use Rattle.table.specs.Good.{first, Good};
+ghost use Rattle.engine.specs.Calls.{Answered};
+ghost use Rattle.engine.specs.Tests.{Ready, Opened, Grew, Left, Settled};
+
+// What `step` answers.
+pub enum Answer {
+    Taken { count: usize },
+    BadTable,
+    BadSession,
+    UnknownSymbol,
+    Unopened,
+    TooDeep,
+    NoRun,
+    Crowded,
+    Conflict,
+    Backlog,
+    NoRoom,
+}
+
+// Takes one symbol.
+pub fn step(file: &[u8], session: &mut [u8; SIZE], symbol: u8, out: &mut [u8]) -> Answer
+    ensures { λ r. ⌜
+        Answered (now (file .entry)) (now (session .entry)) symbol (now (out .entry)) r
+        (now (session .exit)) (now (out .exit)) ⌝ }
+{
+    let mut work = [0u8; WORK];
+    step_in(file, session, symbol, out, &mut work)
+}
+
+// The same, in a room that the caller lends; what the room holds afterwards is not promised.
+pub fn step_in(
+    file: &[u8],
+    session: &mut [u8; SIZE],
+    symbol: u8,
+    out: &mut [u8],
+    work: &mut [u8; WORK],
+) -> Answer
+    ensures { λ r. ⌜
+        Answered (now (file .entry)) (now (session .entry)) symbol (now (out .entry)) r
+        (now (session .exit)) (now (out .exit)) ⌝ }
+{
+    match table::check(file) {
+        table::Verdict::BadTable => Answer::BadTable,
+        table::Verdict::Taken => on_table(file, session, symbol, out, work),
+    }
+}
+
+// With a good table.
+fn on_table(
+    file: &[u8],
+    session: &mut [u8; SIZE],
+    symbol: u8,
+    out: &mut [u8],
+    work: &mut [u8; WORK],
+) -> Answer
+    requires { ⌜ (Good first (now file)) × Bytes (now file) ⌝ }
+    ensures { λ r. ⌜
+        Answered (now (file .entry)) (now (session .entry)) symbol (now (out .entry)) r
+        (now (session .exit)) (now (out .exit)) ⌝ }
+{
+    if !session::sound(file, session) {
+        return Answer::BadSession;
+    }
+    on_session(file, session, symbol, out, work)
+}
+
+// And a sound session: the symbol's class, and whether the depth allows it.
+fn on_session(
+    file: &[u8],
+    session: &mut [u8; SIZE],
+    symbol: u8,
+    out: &mut [u8],
+    work: &mut [u8; WORK],
+) -> Answer
+    requires { ⌜ Ready (now file) (now session) ⌝ }
+    ensures { λ r. ⌜
+        Answered (now (file .entry)) (now (session .entry)) symbol (now (out .entry)) r
+        (now (session .exit)) (now (out .exit)) ⌝ }
+{
+    let depth = places::depth(session);
+    match table::class_of(file, symbol) {
+        table::Class::Unused => Answer::UnknownSymbol,
+        table::Class::Call => {
+            if depth == table::depth_cap(file) {
+                return Answer::TooDeep;
+            }
+            on_open(file, session, symbol, depth + 1, out, work)
+        }
+        table::Class::Return => {
+            if depth == 0 {
+                return Answer::Unopened;
+            }
+            on_open(file, session, symbol, depth - 1, out, work)
+        }
+        table::Class::Internal => on_open(file, session, symbol, depth, out, work),
+    }
+}
+
+// And a symbol that may come: what follows each present link is drafted.
+fn on_open(
+    file: &[u8],
+    session: &mut [u8; SIZE],
+    symbol: u8,
+    depth: usize,
+    out: &mut [u8],
+    work: &mut [u8; WORK],
+) -> Answer
+    requires { ⌜ Opened (now file) (now session) symbol depth ⌝ }
+    ensures { λ r. ⌜
+        Answered (now (file .entry)) (now (session .entry)) symbol (now (out .entry)) r
+        (now (session .exit)) (now (out .exit)) ⌝ }
+{
+    let mut order = [0u8; 64];
+    match growth::grow(file, session, symbol, work, &mut order) {
+        growth::Growth::Full => Answer::Crowded,
+        growth::Growth::Made { count, clash } => {
+            if count == 0 {
+                return Answer::NoRun;
+            }
+            on_grown(
+                file,
+                session,
+                symbol,
+                depth,
+                out,
+                work,
+                &mut order,
+                count,
+                clash,
+            )
+        }
+    }
+}
+
+// And the links that follow are drafted: those below that they stand on join them.
+fn on_grown(
+    file: &[u8],
+    session: &mut [u8; SIZE],
+    symbol: u8,
+    depth: usize,
+    out: &mut [u8],
+    work: &mut [u8; WORK],
+    order: &mut [u8; 64],
+    count: usize,
+    clash: bool,
+) -> Answer
+    requires { ⌜ Grew (now file) (now session) symbol depth (now work) (now order) count clash ⌝ }
+    ensures { λ r. ⌜
+        Answered (now (file .entry)) (now (session .entry)) symbol (now (out .entry)) r
+        (now (session .exit)) (now (out .exit)) ⌝ }
+{
+    match lower::shake(session, depth, work, order, count) {
+        lower::Shaken::Full => Answer::Crowded,
+        lower::Shaken::Drafted { count: n } => {
+            if clash {
+                return Answer::Conflict;
+            }
+            on_shaken(file, session, symbol, depth, out, work, order, n)
+        }
+    }
+}
+
+// And none clash: what pieces have in common is handed down, and it is found what is sent and what is cut.
+fn on_shaken(
+    file: &[u8],
+    session: &mut [u8; SIZE],
+    symbol: u8,
+    depth: usize,
+    out: &mut [u8],
+    work: &mut [u8; WORK],
+    order: &[u8; 64],
+    n: usize,
+) -> Answer
+    requires { ⌜ Left (now file) (now session) symbol depth (now work) (now order) n ⌝ }
+    ensures { λ r. ⌜
+        Answered (now (file .entry)) (now (session .entry)) symbol (now (out .entry)) r
+        (now (session .exit)) (now (out .exit)) ⌝ }
+{
+    let mut handed = [0usize; 64];
+    settling::push(work, order, n, &mut handed);
+    let sent = settling::common_on(work, order, n, 0);
+    let slot = sent.slot;
+    let long = sent.length;
+    let mut cuts = [0usize; 64];
+    cutting::cut_all(work, order, n, &handed, long, &mut cuts);
+    on_settled(
+        file,
+        session,
+        symbol,
+        depth,
+        out,
+        work,
+        order,
+        n,
+        &cuts,
+        slot,
+        long,
+    )
+}
+
+// The last two tests; then the output and the session are written.
+fn on_settled(
+    file: &[u8],
+    session: &mut [u8; SIZE],
+    symbol: u8,
+    depth: usize,
+    out: &mut [u8],
+    work: &[u8; WORK],
+    order: &[u8; 64],
+    n: usize,
+    cuts: &[usize; 64],
+    slot: usize,
+    long: usize,
+) -> Answer
+    requires { ⌜
+        Settled (now file) (now session) symbol depth (now work) (now order) n (now cuts) slot long ⌝ }
+    ensures { λ r. ⌜
+        Answered (now (file .entry)) (now (session .entry)) symbol (now (out .entry)) r
+        (now (session .exit)) (now (out .exit)) ⌝ }
+{
+    if table::waiting_cap(file) < cutting::longest(work, order, n, cuts) {
+        return Answer::Backlog;
+    }
+    if out.len() < long {
+        return Answer::NoRoom;
+    }
+    let piece = slots::piece(work, slot);
+    write::send(out, &piece[0..long]);
+    write::write(session, work, order, n, cuts, depth);
+    Answer::Taken { count: long }
+}
