@@ -30,34 +30,42 @@ use Rattle.engine.proofs.Told.{told-refused}
 
 module _ {file session : List ℕ} (ready : Ready file session) (symbol : ℕ) where
   -- by class, with the depth as it was read
-  pub asked-unused : (out : List ℕ) → tableOf file .class symbol ≡ unused → Stepped file session symbol out 3 0 session out
+  pub asked-unused : (out : List ℕ) → tableOf file .class symbol ≡ unused
+      → Stepped file session symbol out 3 0 session out
   asked-unused out k =
-      told-refused file session symbol out (ready .good) (ready .sound) (unknown (tableOf file) (sessionOf session) symbol (length out) k) (λ z. omega arith)
+      told-refused file session symbol out (ready .good) (ready .sound)
+      (unknown (tableOf file) (sessionOf session) symbol (length out) k) (λ z. omega arith)
 
   module _ (depth : ℕ) (is : depth ≡ byte session 0) where
     pub asked-deep : (out : List ℕ) → tableOf file .class symbol ≡ call → depth ≡ tableOf file .depthCap
         → Stepped file session symbol out 5 0 session out
     asked-deep out k e =
         let d : sessionOf session .depth ≡ tableOf file .depthCap = omega arith in
-        told-refused file session symbol out (ready .good) (ready .sound) (too-deep (tableOf file) (sessionOf session) symbol (length out) k d) (λ z. omega arith)
+        told-refused file session symbol out (ready .good) (ready .sound)
+        (too-deep (tableOf file) (sessionOf session) symbol (length out) k d) (λ z. omega arith)
 
     pub asked-closed : (out : List ℕ) → tableOf file .class symbol ≡ return → depth ≡ 0
         → Stepped file session symbol out 4 0 session out
     asked-closed out k e =
         let d : sessionOf session .depth ≡ 0 = omega arith in
-        told-refused file session symbol out (ready .good) (ready .sound) (unopened (tableOf file) (sessionOf session) symbol (length out) k d) (λ z. omega arith)
+        told-refused file session symbol out (ready .good) (ready .sound)
+        (unopened (tableOf file) (sessionOf session) symbol (length out) k d) (λ z. omega arith)
 
     pub opened-call : tableOf file .class symbol ≡ call → (depth ≡ tableOf file .depthCap → ⊥)
         → Opened file session symbol (depth + 1)
     opened-call k n =
-        record { ready = ready; to = open-call (tableOf file) (sessionOf session) symbol k (λ e. n (omega arith)); is = rw k (omega arith) }
+        let o = open-call (tableOf file) (sessionOf session) symbol k (λ e. n (omega arith)) in
+        record { ready = ready; to = o; is = rw k (omega arith) }
 
     pub opened-return : tableOf file .class symbol ≡ return → (depth ≡ 0 → ⊥) → Opened file session symbol (depth - 1)
     opened-return k n =
-        record { ready = ready; to = open-return (tableOf file) (sessionOf session) symbol k (λ e. n (omega arith)); is = rw k (omega arith) }
+        let o = open-return (tableOf file) (sessionOf session) symbol k (λ e. n (omega arith)) in
+        record { ready = ready; to = o; is = rw k (omega arith) }
 
     pub opened-internal : tableOf file .class symbol ≡ internal → Opened file session symbol depth
-    opened-internal k = record { ready = ready; to = open-internal (tableOf file) (sessionOf session) symbol k; is = rw k (omega arith) }
+    opened-internal k =
+        let o = open-internal (tableOf file) (sessionOf session) symbol k in
+        record { ready = ready; to = o; is = rw k (omega arith) }
 
 module _ {file session work order : List ℕ} {symbol depth count : ℕ} {clash : Bool}
     (g : Grew file session symbol depth work order count clash) where
@@ -94,7 +102,8 @@ module _ {file session work order : List ℕ} {symbol depth count : ℕ} {clash 
     fits : Fits T S symbol
     fits =
         let e = ap length (sym (are ∙ over-is)) in
-        record { moves = moves; few = omega (arith, drafts .few, length-stacked (λ i. draftIn work′ (slotOf order′ i)) n) }
+        let n = length-stacked (λ i. draftIn work′ (slotOf order′ i)) n in
+        record { moves = moves; few = omega (arith, drafts .few) }
 
     pub grew-conflict : (out : List ℕ) → clash ≡ true → Stepped file session symbol out 8 0 session out
     grew-conflict out c =

@@ -45,8 +45,8 @@ module _ {made work order : List _} {n : ℕ} {c : Bool} (g : Gathered made work
       ∙ ap₂ (λ (a b : Bool). a || b) (sym (g .odds))
       (or-false (clashes e (keep [] made)) ∙ ap (clashes e) (sym (g .are)))
 
-  module _ {key : ℕ} {piece : Word} {r : Keeping} {work′ order′ : List ℕ} (p : PutIn work order n key piece r work′ order′)
-      (l : Link) (plain : Plain l) (no : linkNo l ≡ key) where
+  module _ {key : ℕ} {piece : Word} {r : Keeping} {work′ order′ : List ℕ}
+      (p : PutIn work order n key piece r work′ order′) (l : Link) (plain : Plain l) (no : linkNo l ≡ key) where
     abbrev e : Entry
     e = entry l piece
 

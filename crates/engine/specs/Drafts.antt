@@ -1,5 +1,5 @@
--- The room that a step works in: 64 slots, each with the five bytes of a link, two of a length, one that is not used, and
--- 768 places for a piece; and the order in which the slots are read, the last link first.
+-- The room that a step works in: 64 slots, each with the five bytes of a link, two of a length, one that is not used,
+-- and 768 places for a piece; and the order in which the slots are read, the last link first.
 use mathlib.Core.Path.{_≡_}
 use mathlib.Core.Logic.{_⊎_, _↔_}
 use mathlib.Core.Bool.{Bool, true, false, cond}

@@ -50,8 +50,8 @@ pub record Usable (file session : List ℕ) : Type 0 where
 pub record Fitting (E : List Entry) : Type 0 where
   pub each : (z : Entry) → z among E → Plain (z .link) × (length (z .piece) ≤ draftRoom)
 
--- the entries that follow link `i` by row `r` of a class; where that row fits; where it has the symbol, too, and the link
--- is at the depth
+-- the entries that follow link `i` by row `r` of a class; where that row fits; where it also has the symbol, and the
+-- link is at the depth
 abbrev pub after : List ℕ → List ℕ → Class → ℕ → ℕ → List Entry
 after file session k i r = follow k (sessionOf session .entries) (rowAt file r) (entryAt session i)
 

@@ -38,8 +38,8 @@ fitsLink call r l = eqb (l .here .state) (r .from)
 fitsLink return r l = eqb (l .here .state) (r .from) && eqb (l .here .marker) (r .marker)
 fitsLink internal r l = eqb (l .here .state) (r .from)
 
--- a call: a link one level up that stands on the present pair, with the word; internal: the same level and pair below, the
--- word behind the old piece; a return: for each link under the one popped, a link one level down
+-- a call: a link one level up that stands on the present pair, with the word; internal: the same level and pair below,
+-- the word behind the old piece; a return: for each link under the one popped, a link one level down
 abbrev pub follow : Class → List Entry → Row → Entry → List Entry
 follow unused E r e = []
 follow call E r e = entry (on (r .to) (r .marker) (e .link)) (r .word) ∷ []

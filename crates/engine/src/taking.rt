@@ -1,4 +1,5 @@
-// One step: the tests in their order, and then the work. The session and the output are written only once all have passed.
+// One step: the tests in their order, each after the work that it needs. The session and the output are written only
+// once all have passed.
 use crate::cutting;
 use crate::growth;
 use crate::lower;

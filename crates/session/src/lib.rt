@@ -1,5 +1,5 @@
-// Sessions: what their bytes stand for, which are sound for a table, and the one to begin with. Nothing outside the lent
-// bytes is read or written.
+// Sessions: what their bytes stand for, which are sound for a table, and the one to begin with. Nothing outside the
+// lent bytes is read or written.
 mod fresh;
 pub mod links;
 pub mod places;

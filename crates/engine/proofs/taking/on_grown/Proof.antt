@@ -25,12 +25,14 @@ on-shaken-requires : tie.Need-on-shaken-requires
 on-shaken-requires c κs =
     let shook = c .before .before .before .before .before .before .before .before in
     let told = rw (c .before .before .before .before .before .before .n .given .1) at (shook .shake .ensures) in
-    grew-left (shook .before .before .before .before .before .before .pre) (told .0) (told .1) (c .before .before .before .before .if1 .left)
+    let g = shook .before .before .before .before .before .before .pre in
+    grew-left g (told .0) (told .1) (c .before .before .before .before .if1 .left)
 
 returns-2 : tie.Need-returns-2
 returns-2 c =
     let shook = c .before .before in
-    grew-crowded (shook .before .before .before .before .before .before .pre) _ (rw (c .enum-told .given .1) at (shook .shake .ensures))
+    let g = shook .before .before .before .before .before .before .pre in
+    grew-crowded g _ (rw (c .enum-told .given .1) at (shook .shake .ensures))
 
 same-length : tie.Need-same-length
 same-length c = search needs

@@ -29,7 +29,8 @@ on-grown-requires c κs =
 returns-2 : tie.Need-returns-2
 returns-2 c =
     let grown = c .before .before in
-    opened-crowded (grown .before .before .before .before .before .before .pre) _ (grown .grow .ensures .full (c .enum-told .given .1))
+    let opened = grown .before .before .before .before .before .before .pre in
+    opened-crowded opened _ (grown .grow .ensures .full (c .enum-told .given .1))
 
 same-length : tie.Need-same-length
 same-length c = search needs

@@ -26,8 +26,9 @@ depth-cap-requires c κs = search needs
 returns : tie.Need-returns
 returns c =
     let class = c .before .before .before .before in
+    let ready = class .before .before .before .before .before .pre in
     let k = sym (class .class-of .ensures) ∙ ap meant (c .before .before .enum-told2 .given .1) in
-    asked-deep (class .before .before .before .before .before .pre) _ _ (class .before .depth .ensures) _ k (omega arith)
+    asked-deep ready _ _ (class .before .depth .ensures) _ k (omega arith)
 
 add-on-open : tie.Need-add-on-open
 add-on-open c = search needs
@@ -35,8 +36,10 @@ add-on-open c = search needs
 on-open-requires : tie.Need-on-open-requires
 on-open-requires c κs =
     let class = c .before .before .before .before .before .before .before in
-    let k = sym (class .class-of .ensures) ∙ ap meant (c .before .before .before .before .before .enum-told2 .given .1) in
-    opened-call (class .before .before .before .before .before .pre) _ _ (class .before .depth .ensures) k (λ e. omega arith)
+    let ready = class .before .before .before .before .before .pre in
+    let told = c .before .before .before .before .before in
+    let k = sym (class .class-of .ensures) ∙ ap meant (told .enum-told2 .given .1) in
+    opened-call ready _ _ (class .before .depth .ensures) k (λ e. omega arith)
 
 enum-told-3 : tie.Need-enum-told-3
 enum-told-3 c = search needs
@@ -44,8 +47,9 @@ enum-told-3 c = search needs
 returns-2 : tie.Need-returns-2
 returns-2 c =
     let class = c .before .before .before in
+    let ready = class .before .before .before .before .before .pre in
     let k = sym (class .class-of .ensures) ∙ ap meant (c .before .enum-told3 .given .1) in
-    asked-closed (class .before .before .before .before .before .pre) _ _ (class .before .depth .ensures) _ k (omega arith)
+    asked-closed ready _ _ (class .before .depth .ensures) _ k (omega arith)
 
 sub-on-open : tie.Need-sub-on-open
 sub-on-open c = search needs
@@ -53,8 +57,9 @@ sub-on-open c = search needs
 on-open-requires-2 : tie.Need-on-open-requires-2
 on-open-requires-2 c κs =
     let class = c .before .before .before .before .before .before in
+    let ready = class .before .before .before .before .before .pre in
     let k = sym (class .class-of .ensures) ∙ ap meant (c .before .before .before .before .enum-told3 .given .1) in
-    opened-return (class .before .before .before .before .before .pre) _ _ (class .before .depth .ensures) k (λ e. omega arith)
+    opened-return ready _ _ (class .before .depth .ensures) k (λ e. omega arith)
 
 enum-told-4 : tie.Need-enum-told-4
 enum-told-4 c = search needs
@@ -62,14 +67,16 @@ enum-told-4 c = search needs
 on-open-requires-3 : tie.Need-on-open-requires-3
 on-open-requires-3 c κs =
     let class = c .before .before .before .before .before in
+    let ready = class .before .before .before .before .before .pre in
     let k = sym (class .class-of .ensures) ∙ ap meant (c .before .before .before .enum-told4 .given .1) in
-    opened-internal (class .before .before .before .before .before .pre) _ _ (class .before .depth .ensures) k
+    opened-internal ready _ _ (class .before .depth .ensures) k
 
 returns-3 : tie.Need-returns-3
 returns-3 c =
     let class = c .before .before in
+    let ready = class .before .before .before .before .before .pre in
     let k = sym (class .class-of .ensures) ∙ ap meant (c .enum-told .given .1) in
-    asked-unused (class .before .before .before .before .before .pre) _ _ k
+    asked-unused ready _ _ k
 
 same-length : tie.Need-same-length
 same-length c = search needs

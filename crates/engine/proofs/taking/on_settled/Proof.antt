@@ -32,24 +32,29 @@ part-send-start c = search needs
 part-send-end : tie.Need-part-send-end
 part-send-end c =
     let tested = c .before .before in
-    omega (arith, ap length (c .before .piece .ensures), settled-part (tested .before .before .before .before .before .before .pre))
+    let s = tested .before .before .before .before .before .before .pre in
+    omega (arith, ap length (c .before .piece .ensures), settled-part s)
 
 send-requires : tie.Need-send-requires
 send-requires c κs = search needs
 
 write-requires : tie.Need-write-requires
 write-requires c κs =
-    let s = c .before .before .before .before .before .before .before .before .before .before .before .before .before .pre in
-    (s .left .opened .ready .sound .kept, settled-cuts s (omega arith) (c .before .before .before .before .before .before .before .before .before .before .before .before .before .args .out .now) (omega arith), settled-depth s)
+    let tested = c .before .before .before .before .before .before .before in
+    let start = tested .before .before .before .before .before .before in
+    let s = start .pre in
+    let cuts = settled-cuts s (omega arith) (start .args .out .now) (omega arith) in
+    (s .left .opened .ready .sound .kept, cuts, settled-depth s)
 
 same-length : tie.Need-same-length
 same-length c = search needs
 
 returns-3 : tie.Need-returns-3
 returns-3 c =
-    let s = c .before .before .before .before .before .before .before .before .before .before .before .before .before .before .pre in
     let sent = c .before .before .before .before in
-    settled-taken s (omega arith) _ (omega arith) (c .write .ensures) (sent .before .before .before .piece .ensures) (sent .send .ensures)
+    let read = sent .before .before .before in
+    let s = read .before .before .before .before .before .before .before .pre in
+    settled-taken s (omega arith) _ (omega arith) (c .write .ensures) (read .piece .ensures) (sent .send .ensures)
 
 pub on-settled-spec : {M : Type 1} → statement M
 on-settled-spec =

@@ -16,14 +16,16 @@ cut-all-requires : tie.Need-cut-all-requires
 cut-all-requires c κs =
     let common = c .before .before .before in
     let pushed = common .before .before in
-    left-handed (pushed .before .before .before .before .before .pre) (pushed .push .ensures) (common .common-on .ensures)
+    let d = pushed .before .before .before .before .before .pre in
+    left-handed d (pushed .push .ensures) (common .common-on .ensures)
 
 on-settled-requires : tie.Need-on-settled-requires
 on-settled-requires c κs =
     let cut = c .before .before .before .before in
     let common = cut .before .before .before .before in
     let pushed = common .before .before in
-    left-settled (pushed .before .before .before .before .before .pre) (pushed .push .ensures) (common .common-on .ensures) (cut .cut-all .ensures)
+    let d = pushed .before .before .before .before .before .pre in
+    left-settled d (pushed .push .ensures) (common .common-on .ensures) (cut .cut-all .ensures)
 
 same-length : tie.Need-same-length
 same-length c = search needs

@@ -11,7 +11,8 @@ sound-requires c κs = search needs
 returns : tie.Need-returns
 returns c =
     let tested = c .before in
-    told-bad-session _ _ _ _ (tested .before .before .before .before .pre .0) (denied (tested .sound .ensures) (c .if1 .taken))
+    let good = tested .before .before .before .before .pre .0 in
+    told-bad-session _ _ _ _ good (denied (tested .sound .ensures) (c .if1 .taken))
 
 on-session-requires : tie.Need-on-session-requires
 on-session-requires c κs =
