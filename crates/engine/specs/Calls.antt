@@ -5,9 +5,9 @@ use mathlib.Core.List.{List, _++_}
 use Prim.Native.Nat.{ℕ}
 use lib.ListN.{length, drop}
 use Rattle.words.specs.Lists.{_among_}
-use Rattle.words.specs.Words.{Word}
+use Rattle.words.specs.Words.{Word, common}
 use Rattle.meaning.specs.Living.{Place}
-use Rattle.meaning.specs.Answers.{Moment, stepNumber, sends, follows}
+use Rattle.meaning.specs.Answers.{Moment, stepNumber, sends, follows, accepted, finishNumber}
 use Rattle.table.specs.File.{tableOf}
 use Rattle.table.specs.Good.{first, Good}
 use Rattle.session.specs.Sessions.{trails, stands}
@@ -79,3 +79,17 @@ countOf NoRoom = 0
 abbrev pub Answered : List ℕ → List ℕ → ℕ → List ℕ → Answer → List ℕ → List ℕ → Type 0
 Answered file session symbol out r session′ out′ =
     Stepped file session symbol out (numberOf r) (countOf r) session′ out′
+
+-- finish by the rules in a file from the session in some bytes: its number, and what it writes
+abbrev pub finishOn : List ℕ → List ℕ → ℕ → ℕ
+finishOn file session room = finishNumber (tableOf file) room (stands (sessionOf session))
+
+abbrev pub restOn : List ℕ → List ℕ → Word
+restOn file session = common (accepted (tableOf file) (trails (sessionOf session)))
+
+-- "Finish: 1, 2, 11, 12, 13, 10 … Finish writes what still waits and doesn't change the session"
+pub record Finished (file session out : List ℕ) (number count : ℕ) (out′ : List ℕ) : Type 0 where
+  pub numbered : Numbered file session (finishOn file session (length out)) number
+  pub refused : (number ≡ 0 → ⊥) → (count ≡ 0) × (out′ ≡ out)
+  pub counted : number ≡ 0 → count ≡ length (restOn file session)
+  pub written : number ≡ 0 → out′ ≡ restOn file session ++ drop count out

@@ -39,6 +39,14 @@ accepts-exact T c (ground q) h = (
 )
 accepts-exact T c (over q m t) h = (λ a. absurd (cons≢nil (sym (h .stack) ∙ a .empty)), λ e. absurd (false≢true e))
 
+-- two words of a list differ
+module _ (A : List Word) where
+  abbrev pub Differ : Type 0
+  Differ = (v : Word) × (v among A) × ((w : Word) × (w among A) × (v ≡ w → ⊥))
+
+  pub differ-exact : Exact Differ (anyOf (λ v. anyOf (λ w. not (sameWord v w)) A) A)
+  differ-exact = any-exact A (λ v i. any-exact A (λ w j. not-exact (same-exact v w)))
+
 module _ {L : Limits} {T : Table} (good : Good L T) {u z : Word} {m : Moment} (t : Taken T u z m) where
   abbrev A : List Word
   A = accepted T (m .waiting)
@@ -94,16 +102,10 @@ module _ {L : Limits} {T : Table} (good : Good L T) {u z : Word} {m : Moment} (t
           let x = run-accepted r (record { final = f; empty = no-stack (r .end .stack) (run-depth r ∙ d) }) in
           none (x .0) (x .1)
 
-  abbrev Differ : Type 0
-  Differ = (v : Word) × (v among A) × ((w : Word) × (w among A) × (v ≡ w → ⊥))
-
-  differ-exact : Exact Differ (anyOf (λ v. anyOf (λ w. not (sameWord v w)) A) A)
-  differ-exact = any-exact A (λ v i. any-exact A (λ w j. not-exact (same-exact v w)))
-
   ambiguous-exact : Exact (Ambiguous T u) (anyOf (λ v. anyOf (λ w. not (sameWord v w)) A) A)
-  ambiguous-exact = exact-as (to, fro) differ-exact
+  ambiguous-exact = exact-as (to, fro) (differ-exact A)
     where
-      to : Differ → Ambiguous T u
+      to : Differ A → Ambiguous T u
       to x =
           let y = x .2 in
           let a = accepted-allowed (x .0) (x .1) in
@@ -115,7 +117,7 @@ module _ {L : Limits} {T : Table} (good : Good L T) {u z : Word} {m : Moment} (t
             λ d. y .2 (append-cancel-left z (x .0) (y .0) (sym (a .gives) ∙ d ∙ b .gives)),
           )
 
-      fro : Ambiguous T u → Differ
+      fro : Ambiguous T u → Differ A
       fro c =
           let x = run-accepted (c .0) (c .2) in
           let y = run-accepted (c .1) (c .3) in
@@ -128,7 +130,7 @@ module _ {L : Limits} {T : Table} (good : Good L T) {u z : Word} {m : Moment} (t
       go : (v : Word) → v among A → (b : Bool) → sameWord v w ≡ b → b ≡ true
       go v j true f = refl
       go v j false f =
-          absurd (true≢false (sym (differ-exact .0 (v, j, (w, i, λ d. true≢false (sym (same-in d) ∙ f)))) ∙ e))
+          absurd (true≢false (sym (differ-exact A .0 (v, j, (w, i, λ d. true≢false (sym (same-in d) ∙ f)))) ∙ e))
 
   module _ (room : ℕ) where
     abbrev NoRoom : Type 0

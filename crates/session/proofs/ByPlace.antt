@@ -44,10 +44,10 @@ module _ (bytes : List ℕ) where
   abbrev S : Session
   S = sessionOf bytes
 
-  has-at : (i : ℕ) → i < countOf bytes → Has S (linkAt bytes i) (pieceAt bytes i)
+  pub has-at : (i : ℕ) → i < countOf bytes → Has S (linkAt bytes i) (pieceAt bytes i)
   has-at i l = Memᴰ·map (entryAt bytes) (upTo-in (countOf bytes) i l)
 
-  at-has : (l : Link) (x : Word) → Has S l x → (i : ℕ) × (i < countOf bytes) × (entryAt bytes i ≡ entry l x)
+  pub at-has : (l : Link) (x : Word) → Has S l x → (i : ℕ) × (i < countOf bytes) × (entryAt bytes i ≡ entry l x)
   at-has l x h =
       let o = Memᴰ·of-map (entryAt bytes) (upTo (countOf bytes)) h in
       (o .0, upTo-out (countOf bytes) (o .0) (o .1), o .2)
