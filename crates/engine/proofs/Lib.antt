@@ -31,4 +31,6 @@ pub mod Gathering
 pub mod Following
 pub mod Asked
 pub mod Ended
+pub mod Accepting
+pub mod Closing
 mod Worked

@@ -16,6 +16,8 @@ use Rattle.engine.specs.declared.taking.Answer.{Answer}
 use Rattle.engine.specs.declared.taking.Answer.the-variants.{Taken, BadTable, BadSession, UnknownSymbol}
 use Rattle.engine.specs.declared.taking.Answer.the-variants.{Unopened, TooDeep, NoRun, Crowded, Conflict}
 use Rattle.engine.specs.declared.taking.Answer.the-variants.{Backlog, NoRoom}
+use Rattle.engine.specs.declared.finishing.Ending.{Ending}
+use Rattle.engine.specs.declared.finishing.Ending.the-variants as ending
 
 -- 1 BadTable: "the file breaks a rule above"; 2 BadSession: "not sound for this table"; else the number by the trails
 pub record Numbered (file session : List ℕ) (by-trails number : ℕ) : Type 0 where
@@ -93,3 +95,25 @@ pub record Finished (file session out : List ℕ) (number count : ℕ) (out′ :
   pub refused : (number ≡ 0 → ⊥) → (count ≡ 0) × (out′ ≡ out)
   pub counted : number ≡ 0 → count ≡ length (restOn file session)
   pub written : number ≡ 0 → out′ ≡ restOn file session ++ drop count out
+
+abbrev pub endingNumber : Ending → ℕ
+endingNumber (ending.Taken n) = 0
+endingNumber ending.BadTable = 1
+endingNumber ending.BadSession = 2
+endingNumber ending.Unclosed = 11
+endingNumber ending.NotFinal = 12
+endingNumber ending.Ambiguous = 13
+endingNumber ending.NoRoom = 10
+
+abbrev pub endingCount : Ending → ℕ
+endingCount (ending.Taken n) = n
+endingCount ending.BadTable = 0
+endingCount ending.BadSession = 0
+endingCount ending.Unclosed = 0
+endingCount ending.NotFinal = 0
+endingCount ending.Ambiguous = 0
+endingCount ending.NoRoom = 0
+
+-- what an answer of finish says, and what it leaves
+abbrev pub Ended : List ℕ → List ℕ → List ℕ → Ending → List ℕ → Type 0
+Ended file session out r out′ = Finished file session out (endingNumber r) (endingCount r) out′

@@ -1,5 +1,5 @@
--- What the call `step` promises; and, for proofs only, what a step does on lists of links, in which room, and what its
--- parts ask of each other.
+-- What the calls `step` and `finish` promise; and, for proofs only, what a step does on lists of links, in which room,
+-- and what the parts of both ask of each other.
 pub mod Calls
 pub mod Stepping
 pub mod Drafts
@@ -7,3 +7,4 @@ pub mod Cutting
 pub mod Writing
 pub mod Growing
 pub mod Tests
+pub mod Finishing

@@ -86,7 +86,7 @@ fn same_piece(piece: &[u8], a: &[u8], b: &[u8], c: &[u8]) -> bool
     same(&piece[third..], c)
 }
 
-fn same(a: &[u8], b: &[u8]) -> bool
+pub fn same(a: &[u8], b: &[u8]) -> bool
     ensures { λ r. ⌜ Exact (now (a .entry) ≡ now (b .entry)) r ⌝ }
 {
     match compare(a, b) {

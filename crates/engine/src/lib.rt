@@ -1,6 +1,7 @@
-// One symbol in, the bytes that all runs agree on out: `step`. A refused symbol changes nothing, and nothing outside
-// what is lent is read or written.
+// One symbol in, the bytes that all runs agree on out: `step`; and the end of a message: `finish`. A refusal changes
+// nothing, and nothing outside what is lent is read or written.
 mod cutting;
+mod finishing;
 mod growth;
 mod keeping;
 mod lower;
@@ -9,6 +10,8 @@ mod slots;
 mod taking;
 mod write;
 
+pub use finishing::Ending;
+pub use finishing::finish;
 pub use slots::WORK;
 pub use taking::Answer;
 pub use taking::step;

@@ -47,6 +47,15 @@ module _ (A : List Word) where
   pub differ-exact : Exact Differ (anyOf (λ v. anyOf (λ w. not (sameWord v w)) A) A)
   differ-exact = any-exact A (λ v i. any-exact A (λ w j. not-exact (same-exact v w)))
 
+  -- where two do not differ, the common beginning is the word itself
+  pub agreeing : anyOf (λ v. anyOf (λ w. not (sameWord v w)) A) A ≡ false → (w : Word) → w among A → common A ≡ w
+  agreeing e w i = common-all A i (λ v j. same-out v w (go v j (sameWord v w) refl))
+    where
+      go : (v : Word) → v among A → (b : Bool) → sameWord v w ≡ b → b ≡ true
+      go v j true f = refl
+      go v j false f =
+          absurd (true≢false (sym (differ-exact .0 (v, j, (w, i, λ d. true≢false (sym (same-in d) ∙ f)))) ∙ e))
+
 module _ {L : Limits} {T : Table} (good : Good L T) {u z : Word} {m : Moment} (t : Taken T u z m) where
   abbrev A : List Word
   A = accepted T (m .waiting)
@@ -123,15 +132,6 @@ module _ {L : Limits} {T : Table} (good : Good L T) {u z : Word} {m : Moment} (t
           let y = run-accepted (c .1) (c .3) in
           (x .0, x .1, (y .0, y .1, λ e. c .4 (x .2 ∙ ap (λ (w : Word). z ++ w) e ∙ sym (y .2))))
 
-  -- where two do not differ, the common beginning is the word itself
-  agreeing : anyOf (λ v. anyOf (λ w. not (sameWord v w)) A) A ≡ false → (w : Word) → w among A → common A ≡ w
-  agreeing e w i = common-all A i (λ v j. same-out v w (go v j (sameWord v w) refl))
-    where
-      go : (v : Word) → v among A → (b : Bool) → sameWord v w ≡ b → b ≡ true
-      go v j true f = refl
-      go v j false f =
-          absurd (true≢false (sym (differ-exact A .0 (v, j, (w, i, λ d. true≢false (sym (same-in d) ∙ f)))) ∙ e))
-
   module _ (room : ℕ) where
     abbrev NoRoom : Type 0
     NoRoom = (y : Word) × (w : Word) × Agreed T u y × Allowed T u (y ++ w) × (room < length w)
@@ -156,7 +156,7 @@ module _ {L : Limits} {T : Table} (good : Good L T) {u z : Word} {m : Moment} (t
       λ closed. (
         refl,
         final-exact (flat closed),
-        λ some. (refl, ambiguous-exact, λ one. (refl, room-exact (first-of A some .1) (agreeing one), λ fits. tt)),
+        λ some. (refl, ambiguous-exact, λ one. (refl, room-exact (first-of A some .1) (agreeing A one), λ fits. tt)),
       ),
     )
 
@@ -169,7 +169,7 @@ module _ {L : Limits} {T : Table} (good : Good L T) {u z : Word} {m : Moment} (t
     taken-only w e f =
         let p = fails (finishTests T room m) refl e in
         let v = first-of A (p .1 .0) in
-        let h : (x : Word) → x among A → x ≡ w = λ x i. sym (agreeing (p .1 .1 .0) x i) ∙ f in (
+        let h : (x : Word) → x among A → x ≡ w = λ x i. sym (agreeing A (p .1 .1 .0) x i) ∙ f in (
           record {
             allowed = accepted-allowed w (Memᴰ·cast (sym (h (v .0) (v .1))) (v .1));
             alone = λ x a.
@@ -226,4 +226,4 @@ module _ {L : Limits} {T : Table} (good : Good L T) {u z : Word} {m : Moment} (t
         fro o =
             let e = finish-exact 0 .1 (only-first w (o .0) (o .1)) in
             let p = fails (finishTests T room m) refl e in
-            taken e ∙ ap (λ (v : Word). (0, v)) (agreeing (p .1 .1 .0) w (allowed-accepted w (o .0 .allowed)))
+            taken e ∙ ap (λ (v : Word). (0, v)) (agreeing A (p .1 .1 .0) w (allowed-accepted w (o .0 .allowed)))
