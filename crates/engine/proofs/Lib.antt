@@ -13,6 +13,8 @@ pub mod Number
 pub mod Bounds
 pub mod Stepped
 pub mod Told
+pub mod Alike
+pub mod Demand
 pub mod Tested
 pub mod Numbers
 pub mod Written

@@ -1,6 +1,7 @@
 -- What the calls `step` and `finish` promise; and, for proofs only, what a step does on lists of links, in which room,
 -- and what the parts of both ask of each other.
 pub mod Calls
+pub mod Serving
 pub mod Stepping
 pub mod Drafts
 pub mod Cutting
