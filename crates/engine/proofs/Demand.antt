@@ -72,8 +72,8 @@ behind {file} (taken {u} {z} {session} {out} {session′} {out′} {a} {number} 
     }
 behind {file} (refused {u} {z} {session} {out} {session′} {out′} {a} {number} {count} s c f) =
     let r = c .refused f in
-    let none : z ++ take count out′ ≡ z = ap (λ (n : ℕ). z ++ take n out′) (r .0) ∙ append-nil z in
-    subst (λ (y : Word). Behind file u y session′) (sym none) (subst (Behind file u z) (sym (r .1)) (behind s))
+    let same : z ++ take count out′ ≡ z = ap (λ (n : ℕ). z ++ take n out′) (r .0) ∙ append-nil z in
+    subst (λ (y : Word). Behind file u y session′) (sym same) (subst (Behind file u z) (sym (r .1)) (behind s))
 
 -- finish with an output, by its number and what it writes
 gives : (n : ℕ) (v w : Word) → (_≡_ {A = ℕ × Word} (cond (eqb n 0) (n, v) (n, [])) (0, w)) ↔ ((n ≡ 0) × (v ≡ w))

@@ -15,6 +15,7 @@ pub mod Stepped
 pub mod Told
 pub mod Alike
 pub mod Demand
+pub mod Enough
 pub mod Tested
 pub mod Numbers
 pub mod Written

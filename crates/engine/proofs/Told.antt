@@ -1,19 +1,20 @@
--- What `step` told: from the number by links and the session by links its contract, which one answer meets.
--- Assumes nothing.
+-- What `step` told: from the number by links and the session by links its contract, which one answer meets; and one
+-- answer meets that of `finish`. Assumes nothing.
 use mathlib.Core.Path.{_≡_, refl, sym, _∙_, ap, subst}
 use mathlib.Core.Bool.{Bool, true, false}
 use mathlib.Core.Logic.{_↔_}
 use mathlib.Core.List.{List, _++_}
-use Prim.Native.Nat.{ℕ}
+use Prim.Native.Nat.{ℕ, _≤_}
 use native.Mathlib.Omega.{arith}
 use lib.Dec.{eqb}
-use lib.ListN.{length, drop}
-use borrow.Author.Tests.{eqb-true, eqb-false}
+use lib.ListN.{length, drop, length-append, length-drop}
+use lib.Seq.{drop-at}
+use borrow.Author.Tests.{eqb-true, eqb-false, ltb-false}
 use Rattle.words.specs.Lists.{_among_}
 use Rattle.words.specs.Words.{Word, Bytes}
 use Rattle.meaning.specs.Table.{Table, edition1, Good as GoodTable}
-use Rattle.meaning.specs.Answers.{stepTests}
-use Rattle.meaning.proofs.Tests.{absent}
+use Rattle.meaning.specs.Answers.{stepTests, finishTests}
+use Rattle.meaning.proofs.Tests.{absent, fails}
 use Rattle.table.specs.File.{tableOf}
 use Rattle.table.specs.Good.{first, Good}
 use Rattle.table.proofs.Stands.{good-table}
@@ -21,7 +22,7 @@ use Rattle.session.specs.Sessions.{Session, Sound, trails, stands}
 use Rattle.session.specs.Bytes.{sessionOf, bytesOf, SoundBytes}
 use Rattle.session.proofs.RoundTrip.{decoded, encoded-sound, bytes-one}
 use Rattle.engine.specs.Stepping.{stepped, sent, linkNumber}
-use Rattle.engine.specs.Calls.{Numbered, numberOn, sendsOn, followsOn, Stepped}
+use Rattle.engine.specs.Calls.{Numbered, numberOn, sendsOn, followsOn, Stepped, finishOn, restOn, Finished}
 use Rattle.engine.proofs.Number.{number-exact}
 use Rattle.engine.proofs.Stepped.{stepped-depth, stepped-exact, sent-exact, stepped-sound}
 
@@ -175,3 +176,60 @@ module _ (file session : List ℕ) (symbol : ℕ) (out : List ℕ) where
                 (λ m. y .1 (x .0 m), λ m. x .1 (y .0 m))),
             a .written z ∙ ap (λ (c : ℕ). sendsOn file session symbol ++ drop c out) counts ∙ sym (b .written z′),
           )
+
+-- finish: two answers that meet its contract on the same lists are the same
+pub finished-unique : (file session out : List ℕ) {n n′ c c′ : ℕ} {o o′ : List ℕ} → Finished file session out n c o
+    → Finished file session out n′ c′ o′ → (n ≡ n′) × (c ≡ c′) × (o ≡ o′)
+finished-unique file session out {n} {n′} {c} {c′} {o} {o′} a b = go (eqb n 0) refl
+  where
+    same : n ≡ n′
+    same = numbered-unique file session (finishOn file session (length out)) n n′ (a .numbered) (b .numbered)
+
+    go : (t : Bool) → eqb n 0 ≡ t → (n ≡ n′) × (c ≡ c′) × (o ≡ o′)
+    go false e =
+        let x = a .refused (eqb-false n 0 e) in
+        let y = b .refused (λ h. eqb-false n 0 e (same ∙ h)) in
+        (same, x .0 ∙ sym (y .0), x .1 ∙ sym (y .1))
+    go true e =
+        let z = eqb-true n 0 e in
+        let z′ = sym same ∙ z in
+        let counts = a .counted z ∙ sym (b .counted z′) in (
+          same,
+          counts,
+          a .written z ∙ ap (λ (c : ℕ). restOn file session ++ drop c out) counts ∙ sym (b .written z′),
+        )
+
+-- "asking twice gives the same": also where the second is lent what the first has written
+pub finish-again : (file session out : List ℕ) {n n′ c c′ : ℕ} {o o′ : List ℕ} → Finished file session out n c o
+    → Finished file session o n′ c′ o′ → (n ≡ n′) × (c ≡ c′) × (o ≡ o′)
+finish-again file session out {n} {n′} {c} {c′} {o} {o′} a b = finished-unique file session o (go (eqb n 0) refl) b
+  where
+    rest : Word
+    rest = restOn file session
+
+    -- an accepted finish had room
+    room : n ≡ 0 → length rest ≤ length out
+    room z =
+        let good = a .numbered .good-table .0 (λ h. omega arith) in
+        let ok = a .numbered .good-session good .0 (λ h. omega arith) in
+        let tests = finishTests (tableOf file) (length out) (stands (sessionOf session)) in
+        let e = sym (a .numbered .otherwise good ok) ∙ z in
+        ltb-false (length out) (length rest) (fails tests refl e .1 .1 .1 .0)
+
+    go : (t : Bool) → eqb n 0 ≡ t → Finished file session o n c o
+    go false e =
+        let x = a .refused (eqb-false n 0 e) in
+        subst (λ (l : List ℕ). Finished file session l n c o) (sym (x .1)) a
+    go true e =
+        let z = eqb-true n 0 e in
+        let w = a .written z in
+        let l : length out ≡ length o =
+        omega (arith, ap length w, length-append rest (drop c out), length-drop c out, a .counted z, room z) in
+        record {
+          numbered = subst (λ (k : ℕ). Numbered file session (finishOn file session k) n) l (a .numbered);
+          refused = λ f. absurd (f z);
+          counted = a .counted;
+          written = λ z.
+              w ∙ ap (λ (l : List ℕ). rest ++ l)
+              (sym (ap (drop c) w ∙ drop-at rest (drop c out) c (sym (a .counted z))));
+        }

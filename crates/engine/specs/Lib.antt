@@ -1,5 +1,5 @@
--- What the calls `step` and `finish` promise; and, for proofs only, what a step does on lists of links, in which room,
--- and what the parts of both ask of each other.
+-- What the calls `step` and `finish` promise, and what follows from begin to end; for proofs only, what a step does on
+-- lists of links, in which room, and what the parts of both calls ask of each other.
 pub mod Calls
 pub mod Serving
 pub mod Stepping

@@ -32,7 +32,7 @@ pub data Served (file : List ℕ) : Word → Word → List ℕ → Type 0 where
 -- refusals of demand 2; one that sends nothing until finish, or works on the first symbol and then pretends, by
 -- demand 2 after every symbol; an invented byte count or depth, by the bytes written and the symbols taken"
 pub record Demand (file : List ℕ) (u z : Word) (session : List ℕ) : Type 0 where
-  -- numbers 1 and 2 are of no sentence below and are never given, for these two
+  -- the file is good and the session sound: so numbers 1 and 2, which no sentence below has, are never given
   pub good : Good first file
   pub sound : SoundBytes (tableOf file) session
   -- what was sent is the longest common beginning of the outputs of all runs over the symbols taken
