@@ -14,19 +14,19 @@ use Rattle.table.specs.Good.{first}
 use Rattle.table.proofs.Stands.{good-table}
 use Rattle.session.specs.Sessions.{Entry, Session}
 use Rattle.session.specs.Bytes.{sessionOf}
-use Rattle.engine.specs.Stepping.{grow, keep, kept, shaken}
+use Rattle.stepping.specs.Stepping.{grow, keep, kept, shaken}
 use Rattle.engine.specs.Drafts.{draftRoom, slotOf, draftIn, draftsOf, Drafts, Plain, AllAt, shakenOver}
 use Rattle.engine.specs.Growing.{Gathered, Usable, Fitting}
-use Rattle.engine.specs.Calls.{Stepped}
+use Rattle.stepping.specs.Promises.{Stepped}
 use Rattle.engine.specs.Tests.{Ready, Opened, Grew, Left}
 use Rattle.engine.proofs.Tested.{open-call, open-return, open-internal, unknown, unopened, too-deep, Moves}
 use Rattle.engine.proofs.Tested.{Fits, no-run, crowded, conflicting}
 use Rattle.engine.proofs.Drafted.{length-stacked}
-use Rattle.engine.proofs.Keep.{keep-among, keep-linked}
-use Rattle.engine.proofs.Grow.{grow-level}
-use Rattle.engine.proofs.Shake.{kept-fewer}
-use Rattle.engine.proofs.Bounds.{deeper-within, grow-small, grow-short}
-use Rattle.engine.proofs.Told.{told-refused}
+use Rattle.stepping.proofs.Keep.{keep-among, keep-linked}
+use Rattle.stepping.proofs.Grow.{grow-level}
+use Rattle.stepping.proofs.Shake.{kept-fewer}
+use Rattle.stepping.proofs.Bounds.{deeper-within, grow-small, grow-short}
+use Rattle.stepping.proofs.Told.{told-refused}
 
 module _ {file session : List ℕ} (ready : Ready file session) (symbol : ℕ) where
   -- by class, with the depth as it was read

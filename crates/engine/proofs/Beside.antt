@@ -18,11 +18,11 @@ use Rattle.session.specs.Bytes.{linkFrom}
 use Rattle.session.specs.Numbers.{seatFrom, footFrom}
 use Rattle.session.proofs.Tests.{pieces-in}
 use Rattle.session.proofs.Loads.{level-less}
-use Rattle.engine.specs.Stepping.{foot, seat, hasFoot, base, cut}
+use Rattle.stepping.specs.Stepping.{foot, seat, hasFoot, base, cut}
 use Rattle.engine.specs.Drafts.{slotStart, lengthIn, pieceIn, draftIn, slotOf, stacked, draftsOf}
 use Rattle.engine.specs.Cutting.{cutDraft, cutDrafts, besideOf, Handed, CutTo}
-use Rattle.engine.proofs.Feet.{foot-exact, foot-own}
-use Rattle.engine.proofs.Push.{base-after}
+use Rattle.stepping.proofs.Feet.{foot-exact, foot-own}
+use Rattle.stepping.proofs.Push.{base-after}
 use Rattle.engine.proofs.Numbers.{foot-number, lowest-number, from-plain, foot-from}
 use Rattle.engine.proofs.Drafted.{stacked-in, stacked-same}
 

@@ -28,10 +28,10 @@ use Rattle.session.specs.Sessions.{Entry, entry, Session, trails, stands}
 use Rattle.session.specs.Bytes.{countOf, linkAt, pieceAt, sessionOf, SoundBytes}
 use Rattle.session.specs.Numbers.{Measured}
 use Rattle.session.proofs.ByPlace.{has-at, at-has}
-use Rattle.engine.specs.Calls.{Numbered, finishOn, Finished}
+use Rattle.stepping.specs.Promises.{Numbered, finishOn, Finished}
 use Rattle.engine.specs.Tests.{Ready}
 use Rattle.engine.specs.Finishing.{finalAt, FirstFinal, Like, Closed, Found}
-use Rattle.engine.proofs.Told.{numbered-one, numbered-two, numbered-by}
+use Rattle.stepping.proofs.Told.{numbered-one, numbered-two, numbered-by}
 use Rattle.engine.proofs.Accepting.{accepted-in, accepted-out, grounded}
 
 -- the number, test by test

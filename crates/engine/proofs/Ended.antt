@@ -19,24 +19,24 @@ use Rattle.session.specs.Bytes.{pieceRoom, linkFrom, sessionOf, bytesOf}
 use Rattle.session.specs.Numbers.{seatFrom, footFrom}
 use Rattle.session.proofs.Soundly.{lies-rooted}
 use Rattle.session.proofs.RoundTrip.{piece-short}
-use Rattle.engine.specs.Calls.{Stepped}
-use Rattle.engine.specs.Stepping.{seat, grow, keep, kept, shaken, push, base, cut, stepped, sent, linkNumber}
+use Rattle.stepping.specs.Promises.{Stepped}
+use Rattle.stepping.specs.Stepping.{seat, grow, keep, kept, shaken, push, base, cut, stepped, sent, linkNumber}
 use Rattle.engine.specs.Drafts.{slotStart, lengthIn, pieceIn, slotOf, draftIn, draftsOf, footNo, seatNo, Reads}
 use Rattle.engine.specs.Drafts.{Holds, CommonOn, Short, Pushed}
 use Rattle.engine.specs.Cutting.{cutDraft, cutDrafts, Handed, CutTo, Weighable}
 use Rattle.engine.specs.Writing.{Cuts, cutSession}
 use Rattle.engine.specs.Tests.{Ready, LeftOf, Left, Settled}
-use Rattle.engine.proofs.Keep.{keep-linked}
-use Rattle.engine.proofs.Shake.{shaken-rises, shaken-lies, kept-fewer}
-use Rattle.engine.proofs.Bounds.{deeper-within, shaken-cases, grow-ranges, pushed-short}
-use Rattle.engine.proofs.Push.{push-in, push-out, push-rises}
+use Rattle.stepping.proofs.Keep.{keep-linked}
+use Rattle.stepping.proofs.Shake.{shaken-rises, shaken-lies, kept-fewer}
+use Rattle.stepping.proofs.Bounds.{deeper-within, shaken-cases, grow-ranges, pushed-short}
+use Rattle.stepping.proofs.Push.{push-in, push-out, push-rises}
 use Rattle.engine.proofs.Numbers.{foot-from, seat-from}
 use Rattle.engine.proofs.Drafted.{length-stacked, stacked-in, stacked-out}
 use Rattle.engine.proofs.Groups.{holds-place, piece-length, common-length, base-bottom}
 use Rattle.engine.proofs.Beside.{cut-are, cut-enough}
 use Rattle.engine.proofs.Tested.{Agrees, Waits, backlog, no-room, taken}
-use Rattle.engine.proofs.Stepped.{stepped-sound}
-use Rattle.engine.proofs.Told.{told-refused, told-taken}
+use Rattle.stepping.proofs.Stepped.{stepped-sound}
+use Rattle.stepping.proofs.Told.{told-refused, told-taken}
 
 module _ {file session : List ℕ} {symbol depth : ℕ} (l : LeftOf file session symbol depth) where
   abbrev T : Table

@@ -19,12 +19,12 @@ use Rattle.session.specs.Sessions.{Entry, entry}
 use Rattle.session.specs.Bytes.{pieceRoom, countOf, lengthAt, linkAt, pieceAt, entryAt, sessionOf}
 use Rattle.session.specs.Numbers.{seatAt, footAt}
 use Rattle.session.proofs.Feet.{stands-foot}
-use Rattle.engine.specs.Stepping.{seat, hasFoot, movedTo, fitsLink, follow, takes, grow}
+use Rattle.stepping.specs.Stepping.{seat, hasFoot, movedTo, fitsLink, follow, takes, grow}
 use Rattle.engine.specs.Drafts.{draftRoom, Plain}
 use Rattle.engine.specs.Growing.{Grown, Gathers, Usable, Fitting, after, lowered, uncovered, byClass, byRow}
 use Rattle.engine.specs.Growing.{byRows}
 use Rattle.engine.specs.declared.growth.Growth.{Growth}
-use Rattle.engine.proofs.Feet.{seat-stands}
+use Rattle.stepping.proofs.Feet.{seat-stands}
 use Rattle.engine.proofs.Gathering.{Passing, passing-start, passing-skip, each-same, gathers-as, fitting-one}
 use Rattle.engine.proofs.Gathering.{fitting-as}
 

@@ -14,7 +14,7 @@ use Rattle.words.proofs.Lists.{each-in, each-append, upTo-in, below-or}
 use Rattle.meaning.specs.Answers.{linksCap}
 use Rattle.meaning.specs.Trails.{Link}
 use Rattle.session.specs.Sessions.{RisesByLink, Entry, entry}
-use Rattle.engine.specs.Stepping.{entryKey, keep, clashes, conflict}
+use Rattle.stepping.specs.Stepping.{entryKey, keep, clashes, conflict}
 use Rattle.engine.specs.Drafts.{workSize, draftsOf, linkNo, Plain, There, Placed, NoSlot as NoRoom, Became}
 use Rattle.engine.specs.Drafts.{PutIn}
 use Rattle.engine.specs.Growing.{Gathered, Grown, Ready, Gathers, Adds, Fitting}
@@ -22,7 +22,7 @@ use Rattle.engine.specs.declared.keeping.Keeping.{Keeping}
 use Rattle.engine.specs.declared.keeping.Keeping.the-variants.{Same, Other, New, Full}
 use Rattle.engine.specs.declared.growth.Growth.{Growth}
 use Rattle.engine.specs.declared.growth.Growth.the-variants.{Full as NoSlot, Made}
-use Rattle.engine.proofs.Keep.{keep-append, conflict-append, keep-rises}
+use Rattle.stepping.proofs.Keep.{keep-append, conflict-append, keep-rises}
 
 or-false : (b : Bool) → (b || false) ≡ b
 or-false true = refl

@@ -19,7 +19,7 @@ use Rattle.meaning.specs.Trails.{Link}
 use Rattle.session.specs.Soundly.{piecesOn}
 use Rattle.session.specs.Bytes.{linkFrom}
 use Rattle.session.specs.Numbers.{seatFrom, footFrom}
-use Rattle.engine.specs.Stepping.{seat, hasFoot, base}
+use Rattle.stepping.specs.Stepping.{seat, hasFoot, base}
 use Rattle.engine.specs.Drafts.{slotStart, lengthIn, pieceIn, slotOf, draftsOf, Reads, Holds, footOf, PicksFoot}
 use Rattle.engine.specs.Drafts.{FirstOn, narrowedTo, CommonOn, seatNo, footNo}
 use Rattle.engine.proofs.Numbers.{foot-number, lowest-number, from-plain, foot-from}

@@ -21,7 +21,7 @@ use Rattle.session.specs.Numbers.{seatFrom, footFrom}
 use Rattle.session.proofs.Tests.{bottom-exact}
 use Rattle.engine.specs.Drafts.{slotStart, draftRoom, lengthIn, pieceIn, slotOf}
 use Rattle.engine.specs.Cutting.{cutDraft, cutDrafts, Weighable, cutLoads, cutLoad, CutWeighed, mostWith}
-use Rattle.engine.proofs.Feet.{seat-stands, lowest-exact}
+use Rattle.stepping.proofs.Feet.{seat-stands, lowest-exact}
 use Rattle.engine.proofs.Numbers.{foot-number, lowest-number, from-plain, foot-from}
 
 -- the most of the loads with one foot: at the start, one that has it, one that has not

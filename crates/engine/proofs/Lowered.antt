@@ -19,10 +19,10 @@ use Rattle.session.specs.Bytes.{linkStart, countOf, linkFrom, linkAt, pieceAt, 
 use Rattle.session.specs.Numbers.{seatFrom, footFrom, keyAt}
 use Rattle.session.proofs.Bytes.{counted, long}
 use Rattle.session.proofs.Encoded.{getD-map-upTo}
-use Rattle.engine.specs.Stepping.{seat, hasFoot, lower, shake}
+use Rattle.stepping.specs.Stepping.{seat, hasFoot, lower, shake}
 use Rattle.engine.specs.Drafts.{slotStart, draftRoom, draftIn, slotOf, draftsOf, Drafts, Filled, Footed, Stays}
 use Rattle.engine.specs.Drafts.{AllAt, OneMore, shakenOver}
-use Rattle.engine.proofs.Shake.{shake-top}
+use Rattle.stepping.proofs.Shake.{shake-top}
 use Rattle.engine.proofs.Numbers.{foot-number, from-plain, key-from, foot-from}
 use Rattle.engine.proofs.Drafted.{length-stacked, stacked-in, stacked-out}
 use Rattle.engine.proofs.Over.{one-more}

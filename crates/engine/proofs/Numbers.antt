@@ -20,9 +20,9 @@ use Rattle.table.specs.File.{byte}
 use Rattle.session.specs.Bytes.{pair, belowFrom, linkFrom, NoneBelow}
 use Rattle.session.specs.Numbers.{seatFrom, footFrom, keyFrom}
 use Rattle.session.proofs.Bytes.{none-some}
-use Rattle.engine.specs.Stepping.{foot, seat, hasFoot}
+use Rattle.stepping.specs.Stepping.{foot, seat, hasFoot}
 use Rattle.engine.specs.Drafts.{pairNo, linkNo, seatNo, footNo, Plain}
-use Rattle.engine.proofs.Feet.{foot-exact}
+use Rattle.stepping.proofs.Feet.{foot-exact}
 
 -- what is below a plain link, with its number: nothing at level 0, else a pair of bytes
 pub data Below (l : Link) : Type 0 where

@@ -15,10 +15,10 @@ use Rattle.meaning.specs.Trails.{Link}
 use Rattle.session.specs.Sessions.{Entry, entry}
 use Rattle.session.specs.Bytes.{linkFrom, NoneBelow}
 use Rattle.session.specs.Numbers.{seatFrom, keyFrom}
-use Rattle.engine.specs.Stepping.{seat, base, push}
+use Rattle.stepping.specs.Stepping.{seat, base, push}
 use Rattle.engine.specs.Drafts.{slotStart, draftRoom, lengthIn, pieceIn, draftIn, slotOf, stacked, draftsOf}
 use Rattle.engine.specs.Drafts.{Drafts, Filled, Reads, Holds, CommonOn, aboveOf, PushedOne, Short, Pushed}
-use Rattle.engine.proofs.Push.{pushed}
+use Rattle.stepping.proofs.Push.{pushed}
 use Rattle.engine.proofs.Numbers.{from-plain, key-from}
 use Rattle.engine.proofs.Drafted.{stacked-same, none-stays, length-stays, draft-stays}
 use Rattle.engine.proofs.Groups.{holds, holds-place, piece-length, common-length, base-seat}

@@ -20,10 +20,10 @@ use Rattle.meaning.specs.Answers.{linksCap}
 use Rattle.session.specs.Sessions.{Entry, entry, RisesByLink}
 use Rattle.session.specs.Bytes.{NoneBelow}
 use Rattle.session.specs.Numbers.{keyFrom}
-use Rattle.engine.specs.Stepping.{entryKey, clashes}
+use Rattle.stepping.specs.Stepping.{entryKey, clashes}
 use Rattle.engine.specs.Drafts.{slotStart, draftRoom, lengthIn, pieceIn, draftIn, slotOf, stacked, draftsOf}
 use Rattle.engine.specs.Drafts.{Drafts, linkNo, Plain, Filled, Place, Inserted, There, Placed, NoSlot}
-use Rattle.engine.proofs.Keep.{clashes-exact}
+use Rattle.stepping.proofs.Keep.{clashes-exact}
 use Rattle.engine.proofs.Numbers.{number-one, number-rises, from-plain, key-from}
 use Rattle.engine.proofs.Drafted.{length-stacked, stacked-in, stacked-out, stacked-same, stacked-falls}
 use Rattle.engine.proofs.Drafted.{draft-stays, none-stays, length-stays}

@@ -12,7 +12,7 @@ use Rattle.meaning.specs.Answers.{linksCap}
 use Rattle.session.specs.Sessions.{Session}
 use Rattle.session.specs.Soundly.{longest}
 use Rattle.engine.specs.Tests.{Open}
-use Rattle.engine.specs.Stepping.{grow, kept, shaken, conflict, stepped, sent, linkNumber}
+use Rattle.stepping.specs.Stepping.{grow, kept, shaken, conflict, stepped, sent, linkNumber}
 
 module _ (T : Table) (S : Session) (a : ℕ) where
   -- by class: what may follow, and what the depth forbids

@@ -11,7 +11,7 @@ use Rattle.session.specs.Sessions.{Entry, entry, RisesByLink, standsOn}
 use Rattle.session.specs.Soundly.{Load, most, loads}
 use Rattle.session.specs.Bytes.{linkFrom}
 use Rattle.session.specs.Numbers.{seatFrom, footFrom}
-use Rattle.engine.specs.Stepping.{foot, base}
+use Rattle.stepping.specs.Stepping.{foot, base}
 use Rattle.engine.specs.Drafts.{slotStart, lengthIn, pieceIn, draftIn, slotOf, stacked, draftsOf, Drafts}
 use Rattle.engine.specs.Drafts.{aboveOf}
 

@@ -18,7 +18,7 @@ use Rattle.session.specs.Sessions.{Entry, entry}
 use Rattle.session.specs.Soundly.{piecesOn}
 use Rattle.session.specs.Bytes.{linkFrom, linkAt, NoneBelow, sessionOf}
 use Rattle.session.specs.Numbers.{seatAt, footFrom, keyFrom}
-use Rattle.engine.specs.Stepping.{seat, lower, shake, base, push, entryKey, clashes}
+use Rattle.stepping.specs.Stepping.{seat, lower, shake, base, push, entryKey, clashes}
 use Rattle.engine.specs.declared.lower.Shaken.{Shaken}
 use Rattle.engine.specs.declared.lower.Shaken.the-variants.{Full, Drafted}
 use Rattle.engine.specs.declared.keeping.Keeping.{Keeping}

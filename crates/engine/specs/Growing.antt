@@ -13,7 +13,7 @@ use Rattle.table.specs.File.{rowCount, wordOf, rowAt, tableOf}
 use Rattle.table.specs.Good.{first, Good}
 use Rattle.session.specs.Sessions.{Entry, entry}
 use Rattle.session.specs.Bytes.{linkAt, pieceAt, entryAt, sessionOf, Kept}
-use Rattle.engine.specs.Stepping.{seat, hasFoot, movedTo, fitsLink, follow, takes, keep, conflict}
+use Rattle.stepping.specs.Stepping.{seat, hasFoot, movedTo, fitsLink, follow, takes, keep, conflict}
 use Rattle.engine.specs.Drafts.{draftRoom, draftsOf, Drafts, linkNo, Plain}
 use Rattle.engine.specs.declared.growth.Growth.{Growth}
 use Rattle.engine.specs.declared.growth.Growth.the-variants.{Full, Made}

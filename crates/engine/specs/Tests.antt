@@ -13,7 +13,7 @@ use Rattle.table.specs.File.{tableOf}
 use Rattle.table.specs.Good.{first, Good}
 use Rattle.session.specs.Sessions.{Session}
 use Rattle.session.specs.Bytes.{linkFrom, sessionOf, SoundBytes}
-use Rattle.engine.specs.Stepping.{grow, keep, conflict, kept, shaken, stepped, sent}
+use Rattle.stepping.specs.Stepping.{grow, keep, conflict, kept, shaken, stepped, sent}
 use Rattle.engine.specs.Drafts.{slotStart, draftRoom, lengthIn, pieceIn, slotOf, draftsOf, Drafts}
 use Rattle.engine.specs.Cutting.{cutDrafts}
 

@@ -1,8 +1,9 @@
 // Cutting: by how much each draft is cut in front, and the longest output that waits then.
 use crate::slots;
 use crate::slots::WORK;
+use words::larger;
 ghost use mathlib.Core.Path.{_≡_};
-ghost use Prim.Native.Nat.{_+_, _<_, _≤_, max};
+ghost use Prim.Native.Nat.{_+_, _<_, _≤_};
 ghost use lib.ListN.{length};
 ghost use Rattle.session.specs.Soundly.{longest as longestOf};
 ghost use Rattle.engine.specs.Drafts.{Drafts};
@@ -49,15 +50,6 @@ pub fn cut_all(
         all[i] = cut_by(work, order, n, handed, sent, i);
         i += 1;
     }
-}
-
-fn larger(a: usize, b: usize) -> usize
-    ensures { λ r. ⌜ r ≡ max a b ⌝ }
-{
-    if a < b {
-        return b;
-    }
-    a
 }
 
 // The most of the loads of the first i drafts with this foot; 0 where there is none.

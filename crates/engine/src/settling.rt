@@ -6,7 +6,7 @@ ghost use mathlib.Core.Path.{_≡_};
 ghost use Prim.Native.Nat.{_+_, _≤_, _<_};
 ghost use mathlib.Core.List.{_++_};
 ghost use lib.ListN.{length, set};
-ghost use Rattle.engine.specs.Stepping.{push as pushOf};
+ghost use Rattle.stepping.specs.Stepping.{push as pushOf};
 ghost use Rattle.engine.specs.Drafts.{draftRoom, lengthIn, pieceIn, slotOf, draftsOf, Drafts, Reads, Holds};
 ghost use Rattle.engine.specs.Drafts.{FirstOn, CommonOn, narrowedTo, aboveOf, PushedOne, Short, Pushed};
 

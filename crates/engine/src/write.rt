@@ -4,6 +4,7 @@ use crate::slots::WORK;
 use session::places;
 use session::places::SIZE;
 use words::copy;
+use words::larger;
 ghost use mathlib.Core.Path.{_≡_};
 ghost use mathlib.Core.List.{_++_};
 ghost use Prim.Native.Nat.{ℕ, _≤_, _<_};
@@ -86,11 +87,4 @@ fn write_place(
     let s = slots::slot(order, i);
     let all = slots::piece(work, s);
     places::put_entry(session, p, slots::link(work, s), &all[cuts[i]..]);
-}
-
-fn larger(a: usize, b: usize) -> usize
-    requires { ⌜ (a ≤ 64) × (b ≤ 64) ⌝ }
-    ensures { λ r. ⌜ (a ≤ r) × (b ≤ r) × (r ≤ 64) ⌝ }
-{
-    if a < b { b } else { a }
 }

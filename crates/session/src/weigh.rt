@@ -4,21 +4,13 @@ use crate::places::count;
 use crate::places::foot;
 use crate::places::piece;
 use crate::places::seat;
+use words::larger;
 ghost use mathlib.Core.Path.{_≡_};
-ghost use Prim.Native.Nat.{_+_, _<_, _≤_, max};
+ghost use Prim.Native.Nat.{_+_, _<_, _≤_};
 ghost use Rattle.meaning.specs.Table.{Table};
 ghost use Rattle.session.specs.Soundly.{longest as longestOf};
 ghost use Rattle.session.specs.Bytes.{countOf, sessionOf};
 ghost use Rattle.session.specs.Numbers.{Lent, Links, Weighed, Heaviest};
-
-fn larger(a: usize, b: usize) -> usize
-    ensures { λ r. ⌜ r ≡ max a b ⌝ }
-{
-    if a < b {
-        return b;
-    }
-    a
-}
 
 // The most of the loads of the links from a place on with this foot; 0 where there is none.
 fn most_on(session: &[u8; SIZE], loads: &[usize; 64], below: usize, from: usize) -> usize

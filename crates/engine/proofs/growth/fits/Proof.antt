@@ -6,7 +6,7 @@ use Rattle.meaning.specs.Table.{Class, call, return, internal}
 use Rattle.table.specs.File.{rowAt}
 use Rattle.table.specs.Calls.{meant}
 use Rattle.session.specs.Bytes.{linkAt}
-use Rattle.engine.specs.Stepping.{fitsLink}
+use Rattle.stepping.specs.Stepping.{fitsLink}
 use Rattle.engine.proofs.Following.{fromHere, fits-not, fits-from}
 use borrow.Author.Needs.{needs}
 use Rattle.engine.proofs.growth.fits.Statement.{statement}

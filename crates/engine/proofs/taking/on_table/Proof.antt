@@ -1,6 +1,6 @@
 -- `engine::taking::on_table` meets its contract. Assumes nothing.
 use Rattle.words.proofs.Exact.{denied, granted}
-use Rattle.engine.proofs.Told.{told-bad-session}
+use Rattle.stepping.proofs.Told.{told-bad-session}
 use borrow.Author.Needs.{needs}
 use Rattle.engine.proofs.taking.on_table.Statement.{statement}
 use Rattle.engine.proofs.taking.on_table.Tie as tie
