@@ -1,19 +1,25 @@
 -- What a step knows as its tests pass, one after the other, of the lists it was lent. Assumes nothing.
 use mathlib.Core.Path.{_≡_, refl, sym, _∙_, ap, subst}
 use mathlib.Core.Bool.{Bool, true, false}
+use mathlib.Core.Logic.{_⊎_, inl, inr}
 use mathlib.Core.List.{List, [], _∷_, append-nil}
 use Prim.Native.Nat.{ℕ, _+_, _-_, _<_, _≤_}
+use native.Mathlib.Nat.{eq-or-lt-of-le}
 use native.Mathlib.Omega.{arith}
-use lib.ListN.{length}
+use lib.ListN.{length, drop}
 use Rattle.words.specs.Lists.{_among_, isEmpty}
+use Rattle.words.specs.Words.{Word}
+use Rattle.words.specs.Order.{Less}
 use Rattle.words.proofs.Lists.{first-of}
+use Rattle.words.proofs.Order.{rises-out}
 use Rattle.meaning.specs.Table.{unused, call, return, internal, Table, edition1, Good as GoodTable}
+use Rattle.meaning.specs.Trails.{linkKey}
 use Rattle.meaning.specs.Answers.{linksCap}
 use Rattle.table.specs.File.{byte, tableOf}
 use Rattle.table.specs.Good.{first}
 use Rattle.table.proofs.Stands.{good-table}
 use Rattle.session.specs.Sessions.{Entry, Session}
-use Rattle.session.specs.Bytes.{sessionOf}
+use Rattle.session.specs.Bytes.{countOf, linkAt, entryAt, sessionOf}
 use Rattle.stepping.specs.Stepping.{grow, keep, kept, shaken}
 use Rattle.engine.specs.Drafts.{draftRoom, slotOf, draftIn, draftsOf, Drafts, Plain, AllAt, shakenOver}
 use Rattle.engine.specs.Growing.{Gathered, Usable, Fitting}
@@ -130,7 +136,25 @@ module _ {file session : List ℕ} {symbol depth : ℕ} (o : Opened file session
   G = grow (tableOf file) (sessionOf session) symbol
 
   pub opened-usable : Usable file session
-  opened-usable = record { good = R .good; kept = R .sound .kept }
+  opened-usable = record { good = R .good; kept = R .sound .kept; levels = levels }
+    where
+      first-le : (x y : ℕ) (v w : Word) → Less (x ∷ v) (y ∷ w) → x ≤ y
+      first-le x y v w (inl l) = omega arith
+      first-le x y v w (inr e) = omega (arith, e .0)
+
+      levels : (j k : ℕ) → j ≤ k → k < countOf session → linkAt session j .level ≤ linkAt session k .level
+      levels j k le lt = go (eq-or-lt-of-le le)
+        where
+          key : Entry → Word
+          key e = linkKey (e .link)
+
+          go : (j ≡ k) ⊎ (j < k) → linkAt session j .level ≤ linkAt session k .level
+          go (inl e) = rw e (omega arith)
+          go (inr l) =
+              let a = linkAt session j in
+              let b = linkAt session k in
+              first-le (a .level) (b .level) (drop 1 (linkKey a)) (drop 1 (linkKey b))
+              (rises-out key (entryAt session) (countOf session) (R .sound .sound .rise) j k l lt)
 
   pub opened-fitting : Fitting G
   opened-fitting = record { each = each }

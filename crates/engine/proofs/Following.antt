@@ -2,13 +2,13 @@
 use mathlib.Core.Path.{_≡_, refl, sym, _∙_, ap}
 use mathlib.Core.Bool.{Bool, true, false, cond, _&&_}
 use mathlib.Core.List.{List, [], _∷_, _++_, List·Memᴰ·head}
-use Prim.Native.Nat.{ℕ, _<_, _≤_}
+use Prim.Native.Nat.{ℕ, _+_, _<_, _≤_}
 use native.Mathlib.Omega.{arith}
 use borrow.Author.Tests.{eq-eqb, ne-eqb}
 use lib.Dec.{eqb}
 use lib.ListN.{length}
 use Rattle.words.specs.Lists.{each, only, upTo}
-use Rattle.words.proofs.Lists.{each-map}
+use Rattle.words.proofs.Lists.{each-map, getD-byte}
 use Rattle.meaning.specs.Table.{Class, unused, call, return, internal, Row}
 use Rattle.meaning.specs.Trails.{Link}
 use Rattle.table.specs.File.{byte, rowCount, wordOf, rowAt, tableOf}
@@ -16,7 +16,7 @@ use Rattle.table.specs.Calls.{FirstRow, WordIn}
 use Rattle.table.proofs.Passed.{word-in}
 use Rattle.table.proofs.Stands.{rows-of}
 use Rattle.session.specs.Sessions.{Entry, entry}
-use Rattle.session.specs.Bytes.{pieceRoom, countOf, lengthAt, linkAt, pieceAt, entryAt, sessionOf}
+use Rattle.session.specs.Bytes.{linkStart, pieceRoom, countOf, lengthAt, linkAt, pieceAt, entryAt, sessionOf}
 use Rattle.session.specs.Numbers.{seatAt, footAt}
 use Rattle.session.proofs.Feet.{stands-foot}
 use Rattle.stepping.specs.Stepping.{seat, hasFoot, movedTo, fitsLink, follow, takes, grow}
@@ -54,6 +54,12 @@ module _ {file session : List ℕ} (u : Usable file session) where
         → lowered file session i r j ∷ [] ≡ uncovered file session i r j
     uncovered-is e = uncovers (eq-eqb (footAt session i) (seatAt session j) e)
 
+    -- no link as high as the one that goes is
+    uncovered-high : linkAt session i .level ≤ linkAt session j .level → uncovered file session i r j ≡ []
+    uncovered-high l =
+        let small = getD-byte session (u .kept .small) in
+        sym (uncovered-not (λ e. omega (arith, small (linkStart i + 3), small (linkStart i + 4))))
+
 -- a return goes through all links
 module _ (file session : List ℕ) (i r : ℕ) where
   return-is : each (uncovered file session i r) (upTo (countOf session)) ≡ after file session return i r
@@ -73,6 +79,16 @@ module _ (file session : List ℕ) (i r : ℕ) where
       → Passing (uncovered file session i r) work order g n work′ order′ g′ → n ≡ countOf session
       → Gathers (after file session return i r) work order g g′ work′ order′
   return-end p e = gathers-as (rw e at (p .made)) return-is
+
+  -- from a link on that is as high, nothing more is uncovered
+  pub return-stop : Usable file session → {n : ℕ} {work order work′ order′ : List ℕ} {g g′ : Growth}
+      → Passing (uncovered file session i r) work order g n work′ order′ g′ → n < countOf session
+      → linkAt session i .level ≤ linkAt session n .level
+      → Gathers (after file session return i r) work order g g′ work′ order′
+  return-stop u {n} p lt l =
+      let high : (k : ℕ) → n ≤ k → k < countOf session → uncovered file session i r k ≡ [] =
+      λ k le m. uncovered-high u i r k (omega (arith, u .levels n k le m)) in
+      return-end (passing-skip p (countOf session) (omega arith) high) refl
 
 -- whether a row fits: never where it is from another state, and else as its class says
 pub fits-not : (k : Class) (r : Row) (l : Link) → (l .here .state ≡ r .from → ⊥) → false ≡ fitsLink k r l

@@ -12,7 +12,7 @@ use Rattle.meaning.specs.Trails.{Link}
 use Rattle.table.specs.File.{rowCount, wordOf, rowAt, tableOf}
 use Rattle.table.specs.Good.{first, Good}
 use Rattle.session.specs.Sessions.{Entry, entry}
-use Rattle.session.specs.Bytes.{linkAt, pieceAt, entryAt, sessionOf, Kept}
+use Rattle.session.specs.Bytes.{countOf, linkAt, pieceAt, entryAt, sessionOf, Kept}
 use Rattle.stepping.specs.Stepping.{seat, hasFoot, movedTo, fitsLink, follow, takes, keep, conflict}
 use Rattle.engine.specs.Drafts.{draftRoom, draftsOf, Drafts, linkNo, Plain}
 use Rattle.engine.specs.declared.growth.Growth.{Growth}
@@ -42,10 +42,12 @@ abbrev pub Adds : List ℕ → List ℕ → Growth → ℕ → Word → Growth �
 Adds work order g key piece r work′ order′ =
     (l : Link) → Plain l → linkNo l ≡ key → Gathers (entry l piece ∷ []) work order g r work′ order′
 
--- what the functions ask: a good file and a session's bytes; links that are plain, and pieces that have room
+-- what the functions ask: a good file and a session's bytes, with its links by level; links that are plain, and pieces
+-- that have room
 pub record Usable (file session : List ℕ) : Type 0 where
   pub good : Good first file
   pub kept : Kept session
+  pub levels : (j k : ℕ) → j ≤ k → k < countOf session → linkAt session j .level ≤ linkAt session k .level
 
 pub record Fitting (E : List Entry) : Type 0 where
   pub each : (z : Entry) → z among E → Plain (z .link) × (length (z .piece) ≤ draftRoom)

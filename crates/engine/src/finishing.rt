@@ -1,9 +1,9 @@
 // The end of a message: whether it is accepted, and what still waits. No session is changed.
-use crate::keeping::same;
 use crate::write;
 use session::places;
 use session::places::SIZE;
 use table::sets;
+use words::same;
 ghost use Prim.Native.Nat.{_<_};
 ghost use Rattle.words.specs.Words.{Bytes};
 ghost use Rattle.words.specs.Lists.{Exact};

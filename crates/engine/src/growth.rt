@@ -154,7 +154,8 @@ fn uncover(
     add(work, order, growth, key, lower, upper, word)
 }
 
-// A return: all links that the present one stands on.
+// A return: all links that the present one stands on. Links stand by level, so that none of them comes after the first
+// that is as high.
 fn follow_return(
     file: &[u8],
     session: &[u8; SIZE],
@@ -170,9 +171,13 @@ fn follow_return(
         (now (work .entry)) (now (order .entry)) growth a (now (work .exit)) (now (order .exit)) ⌝ }
 {
     let n = places::count(session);
+    let level = places::level(session, i);
     let mut grown = growth;
     let mut j: usize = 0;
     while j < n {
+        if level <= places::level(session, j) {
+            return grown;
+        }
         grown = uncover(file, session, i, r, j, work, order, grown);
         j += 1;
     }

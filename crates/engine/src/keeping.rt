@@ -1,8 +1,7 @@
 // Putting entries at their places among the drafts, each link once.
 use crate::slots;
 use crate::slots::WORK;
-use words::Order;
-use words::compare;
+use words::same;
 ghost use mathlib.Core.Path.{_≡_};
 ghost use mathlib.Core.List.{_++_};
 ghost use Prim.Native.Nat.{_+_, _≤_, _<_};
@@ -84,16 +83,6 @@ fn same_piece(piece: &[u8], a: &[u8], b: &[u8], c: &[u8]) -> bool
         return false;
     }
     same(&piece[third..], c)
-}
-
-pub fn same(a: &[u8], b: &[u8]) -> bool
-    ensures { λ r. ⌜ Exact (now (a .entry) ≡ now (b .entry)) r ⌝ }
-{
-    match compare(a, b) {
-        Order::Before => false,
-        Order::Same => true,
-        Order::After => false,
-    }
 }
 
 // The slot after those in use comes at a place, and those from there on move up by one.

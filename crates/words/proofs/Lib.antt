@@ -1,7 +1,6 @@
 -- What follows of words, one family of facts a file: what is among lists; the longest common beginning; byte order and
--- rising lists; the only rising list with given members; what tests say exactly; what bytes make
--- together; bytes that are all 0; parts written into a list; what `compare` answers.
--- together; bytes that are all 0; what `compare` and `common_length` answer.
+-- rising lists; the only rising list with given members; what tests say exactly; what bytes make together; bytes that
+-- are all 0; parts written into a list; what `compare`, `common_length` and `same` find.
 pub mod Lists
 pub mod Common
 pub mod Order
@@ -12,3 +11,4 @@ pub mod Cleared
 pub mod Pasted
 pub mod Calls
 pub mod Agreed
+mod Equal

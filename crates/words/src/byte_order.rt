@@ -1,5 +1,6 @@
 // Byte order of words, in place.
 ghost use mathlib.Core.Path.{_≡_};
+ghost use Rattle.words.specs.Lists.{Exact};
 ghost use Rattle.words.specs.Order.{side};
 ghost use Rattle.words.specs.Calls.{sideOf};
 
@@ -33,4 +34,22 @@ pub fn compare(a: &[u8], b: &[u8]) -> Order
         return Order::Before;
     }
     Order::Same
+}
+
+// Whether two words are the same, with no way out early: the loop then runs on many bytes at a time.
+pub fn same(a: &[u8], b: &[u8]) -> bool
+    ensures { λ r. ⌜ Exact (now (a .entry) ≡ now (b .entry)) r ⌝ }
+{
+    if a.len() != b.len() {
+        return false;
+    }
+    let mut same = true;
+    let mut i = 0;
+    while i < a.len() {
+        if a[i] != b[i] {
+            same = false;
+        }
+        i += 1;
+    }
+    same
 }

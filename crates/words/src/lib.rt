@@ -10,6 +10,7 @@ pub use all_bytes::zeros;
 pub use beginning::common_length;
 pub use byte_order::Order;
 pub use byte_order::compare;
+pub use byte_order::same;
 pub use writing::clear;
 pub use writing::copy;
 ghost use mathlib.Core.Path.{_≡_};
