@@ -1,5 +1,6 @@
 // Runs the cases that are not proved, and prints what each gives; `stdout` beside this folder holds what it must be.
 // Rule files: table G of the scope as bytes, G with each kind of fault once, cut short, and with each byte changed.
+// Steps: of G, of tables whose runs share a beginning or clash, and of one with 64 links and with a link more.
 // Sessions: those that begin makes, those of G after some symbols, and one for each rule of soundness that it breaks.
 use session::places::SIZE;
 ghost use Prim.Native.Nat.{_<_, _≤_};
@@ -24,6 +25,12 @@ fn main() {
     trail_faults();
     piece_faults();
     zero_faults();
+    steps_of_g();
+    refusals_of_g();
+    unsound();
+    conflict();
+    forks();
+    crowds();
 }
 
 // Writes bytes from a place on, as far as there is room.
@@ -465,4 +472,199 @@ fn zero_faults() {
     tried(b"zeros: behind a piece", 963, b"\x01");
     tried(b"zeros: a piece not used", 1986, b"\x01");
     tried(b"zeros: the last byte", 33217, b"\x01");
+}
+
+// The number that an answer of `step` stands for.
+fn answered(answer: engine::Answer) -> u64 {
+    match answer {
+        engine::Answer::Taken { count: _ } => 0,
+        engine::Answer::BadTable => 1,
+        engine::Answer::BadSession => 2,
+        engine::Answer::UnknownSymbol => 3,
+        engine::Answer::Unopened => 4,
+        engine::Answer::TooDeep => 5,
+        engine::Answer::NoRun => 6,
+        engine::Answer::Crowded => 7,
+        engine::Answer::Conflict => 8,
+        engine::Answer::Backlog => 9,
+        engine::Answer::NoRoom => 10,
+    }
+}
+
+// The byte count that an answer of `step` gives.
+fn sent(answer: engine::Answer) -> u64 {
+    match answer {
+        engine::Answer::Taken { count } => count as u64,
+        _ => 0,
+    }
+}
+
+// One symbol, with so much room of four dots: the number, the byte count, the depth and the links after it, and the dots.
+fn took(file: &[u8], session: &mut [u8; SIZE], symbol: u8, room: usize)
+    requires { ⌜ room ≤ 4 ⌝ }
+{
+    let mut out = [46u8; 4];
+    let answer = lent(file, session, symbol, &mut out[..], room);
+    io::write_all(1, b"step ");
+    io::print_decimal(1, symbol as u64);
+    io::write_all(1, b": ");
+    told(answered(answer), sent(answer));
+    held(session);
+    io::write_all(1, &out[..]);
+    io::write_all(1, b"\n");
+}
+
+// A step that is lent so much of an output.
+fn lent(
+    file: &[u8],
+    session: &mut [u8; SIZE],
+    symbol: u8,
+    out: &mut [u8],
+    room: usize,
+) -> engine::Answer
+    requires { do ⌜ room ≤ (← ⟦out.len()⟧) ⌝ }
+{
+    engine::step(file, session, symbol, &mut out[..room])
+}
+
+fn told(n: u64, count: u64) {
+    io::print_decimal(1, n);
+    io::write_all(1, b" ");
+    io::print_decimal(1, count);
+    io::write_all(1, b" ");
+}
+
+fn held(session: &[u8; SIZE]) {
+    io::print_decimal(1, session::places::depth(session) as u64);
+    io::write_all(1, b" ");
+    io::print_decimal(1, session::places::count(session) as u64);
+    io::write_all(1, b" ");
+}
+
+// Symbol after symbol, with all the room.
+fn message(file: &[u8], session: &mut [u8; SIZE], symbols: &[u8]) {
+    let mut i = 0;
+    while i < symbols.len() {
+        took(file, session, symbols[i], 4);
+        i += 1;
+    }
+}
+
+fn steps_of_g() {
+    let file = g();
+    let mut session = [0u8; SIZE];
+    say(b"steps of G", opened(&file[..], &mut session));
+    took(&file[..], &mut session, 10, 0);
+    took(&file[..], &mut session, 10, 1);
+    message(&file[..], &mut session, b"\x01\x01\x01\x01\x0c");
+}
+
+fn refusals_of_g() {
+    let mut file = g();
+    let mut session = [0u8; SIZE];
+    say(b"refusals of G", opened(&file[..], &mut session));
+    message(&file[..], &mut session, b"\x07\x0b\x01\x0a\x0a");
+    put(&mut file[..], 3, b"\x01");
+    message(&file[..], &mut session, b"\x0a");
+    put(&mut file[..], 1, b"\x02");
+    message(&file[..], &mut session, b"\x01");
+}
+
+// G after 10, with a byte in a place not used.
+fn unsound() {
+    let file = g();
+    let mut session = opening();
+    put(&mut session[..], 33217, b"\x01");
+    say(b"an unsound session", judged(&file[..], &session));
+    message(&file[..], &mut session, b"\x01");
+}
+
+// G with `ON` leading to 1 as `OK` does: one trail, two outputs.
+fn conflict() {
+    let mut file = g();
+    put(&mut file[..], 326, b"\x01");
+    let mut session = [0u8; SIZE];
+    say(b"a conflict", opened(&file[..], &mut session));
+    message(&file[..], &mut session, b"\x0a");
+}
+
+// Internal 1 from 0 to finals 1, with `a`, and 2, with the part of `aab` of which `word` has start and length.
+fn fork(word: &[u8]) -> [u8; 319] {
+    let mut bytes = [0u8; 319];
+    let file = &mut bytes[..];
+    put(file, 0, b"\x01\x03\x00\x04\x04\x00\x3f\x01");
+    put(file, 8, b"\x1c\x00\x00\x01\x1c\x01\x08\x00\x24\x01");
+    put(file, 18, b"\x08\x00\x2c\x01\x10\x00\x3c\x01\x03\x00");
+    put(file, 29, b"\x03");
+    put(file, 284, b"\x01");
+    put(file, 292, b"\x06");
+    put(file, 300, b"\x01\x00\x01\x00\x00\x00\x01\x00");
+    put(file, 308, b"\x01\x00\x02\x00");
+    put(file, 312, word);
+    put(file, 316, b"aab");
+    bytes
+}
+
+fn forks() {
+    forked(b"a and b", b"\x02\x00\x01");
+    forked(b"a and ab", b"\x01\x00\x02");
+    forked(b"a and a", b"\x00\x00\x01");
+}
+
+fn forked(name: &[u8], word: &[u8]) {
+    let file = fork(word);
+    let mut session = [0u8; SIZE];
+    say(name, opened(&file[..], &mut session));
+    message(&file[..], &mut session, b"\x01");
+}
+
+// Eight starting states, each with seven empty-word rows of call 10, to states 0 to 6.
+fn crowd() -> [u8; 748] {
+    let mut bytes = [0u8; 748];
+    let file = &mut bytes[..];
+    put(file, 0, b"\x01\x08\x01\x04\x04\x00\xec\x02");
+    put(file, 8, b"\x1c\x00\x00\x01\x1c\x01\x08\x00\x24\x01");
+    put(file, 18, b"\x08\x00\x2c\x01\xc0\x01\xec\x02\x00\x00");
+    put(file, 38, b"\x01");
+    put(file, 284, b"\xff");
+    call_rows(file);
+    bytes
+}
+
+fn call_rows(file: &mut [u8]) {
+    let mut k: usize = 0;
+    while k < 56 {
+        call_row(file, k);
+        k += 1;
+    }
+}
+
+fn call_row(file: &mut [u8], k: usize)
+    requires { ⌜ k < 56 ⌝ }
+{
+    let row = [10u8, (k / 7) as u8, (k % 7) as u8, 1u8];
+    put(file, 300 + 8 * k, &row[..]);
+}
+
+// The same with one row more, from 0 to 7: behind the seven from 0.
+fn larger_crowd() -> [u8; 756] {
+    let few = crowd();
+    let mut bytes = [0u8; 756];
+    let file = &mut bytes[..];
+    put(file, 0, &few[..]);
+    put(file, 6, b"\xf4");
+    put(file, 22, b"\xc8\x01\xf4");
+    put(file, 356, b"\x0a\x00\x07\x01");
+    put(file, 364, &few[356..]);
+    bytes
+}
+
+fn crowds() {
+    let file = crowd();
+    let mut session = [0u8; SIZE];
+    say(b"a crowd", opened(&file[..], &mut session));
+    message(&file[..], &mut session, b"\x0a\x0a");
+    let larger = larger_crowd();
+    say(b"one row more", opened(&larger[..], &mut session));
+    message(&larger[..], &mut session, b"\x0a");
 }
