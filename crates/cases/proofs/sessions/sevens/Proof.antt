@@ -1,11 +1,11 @@
--- `cases::sevens` meets its contract. Invariant: at most one is counted for each byte passed. Assumes nothing.
+-- `cases::sessions::sevens` meets its contract. Invariant: at most one is counted for each byte passed. Assumes nothing.
 use mathlib.Core.Logic.{⊎-elim}
 use Prim.Native.Nat.{_-_, _≤_}
 use native.Mathlib.Omega.{arith}
 use lib.ListN.{length}
 use borrow.Author.Needs.{needs}
-use Rattle.cases.proofs.sevens.Statement.{statement}
-use Rattle.cases.proofs.sevens.Tie as tie
+use Rattle.cases.proofs.sessions.sevens.Statement.{statement}
+use Rattle.cases.proofs.sessions.sevens.Tie as tie
 
 abbrev Inv-loop : tie.InvT-loop
 Inv-loop session bytes sum₀ i₀ sum i = (i ≤ length bytes) × (sum ≤ i)

@@ -1,8 +1,8 @@
--- `cases::word` meets its contract: the word of a row of a good file stands in the file. Assumes nothing.
+-- `cases::readers::word` meets its contract: the word of a row of a good file stands in the file. Assumes nothing.
 use borrow.Author.Needs.{needs}
 use Rattle.table.proofs.Passed.{word-in}
-use Rattle.cases.proofs.word.Statement.{statement}
-use Rattle.cases.proofs.word.Tie as tie
+use Rattle.cases.proofs.readers.word.Statement.{statement}
+use Rattle.cases.proofs.readers.word.Tie as tie
 
 row-word-requires : tie.Need-row-word-requires
 row-word-requires c κs =

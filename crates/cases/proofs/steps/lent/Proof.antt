@@ -1,10 +1,10 @@
--- `cases::lent` meets its contract: the part that is lent is as long as the room. Assumes nothing.
+-- `cases::steps::lent` meets its contract: the part that is lent is as long as the room. Assumes nothing.
 use mathlib.Core.Path.{sym}
 use native.Mathlib.Omega.{arith}
 use lib.Seq.{length-take-le}
 use borrow.Author.Needs.{needs}
-use Rattle.cases.proofs.lent.Statement.{statement}
-use Rattle.cases.proofs.lent.Tie as tie
+use Rattle.cases.proofs.steps.lent.Statement.{statement}
+use Rattle.cases.proofs.steps.lent.Tie as tie
 
 slice-relend-prefix-step : tie.Need-slice-relend-prefix-step
 slice-relend-prefix-step c = search needs

@@ -1,8 +1,8 @@
--- `cases::changes` meets its contract. Invariant: at most 256 are counted for each place passed. Assumes nothing.
+-- `cases::checks::changes` meets its contract. Invariant: at most 256 are counted for each place passed. Assumes nothing.
 use Prim.Native.Nat.{_-_, _*_, _≤_}
 use borrow.Author.Needs.{needs}
-use Rattle.cases.proofs.changes.Statement.{statement}
-use Rattle.cases.proofs.changes.Tie as tie
+use Rattle.cases.proofs.checks.changes.Statement.{statement}
+use Rattle.cases.proofs.checks.changes.Tie as tie
 
 abbrev Inv-loop : tie.InvT-loop
 Inv-loop sum₀ at₀ sum at = (at ≤ 354) × (sum ≤ 256 * at)

@@ -1,12 +1,12 @@
--- `cases::beginnings` meets its contract. Invariant: at most one of each length passed is counted. Assumes nothing.
+-- `cases::checks::beginnings` meets its contract. Invariant: at most one of each length passed is counted. Assumes nothing.
 use mathlib.Core.Path.{sym}
 use Prim.Native.Nat.{_+_, _-_, _≤_}
 use lib.ListN.{length}
 use native.Mathlib.Omega.{arith}
 use borrow.Author.Needs.{needs}
 use lib.Seq.{length-take-le}
-use Rattle.cases.proofs.beginnings.Statement.{statement}
-use Rattle.cases.proofs.beginnings.Tie as tie
+use Rattle.cases.proofs.checks.beginnings.Statement.{statement}
+use Rattle.cases.proofs.checks.beginnings.Tie as tie
 
 abbrev Inv-loop : tie.InvT-loop
 Inv-loop file sum₀ n₀ sum n = (n ≤ length file + 1) × (sum ≤ n)

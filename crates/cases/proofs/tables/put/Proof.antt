@@ -1,4 +1,4 @@
--- `cases::put` meets its contract. Invariant: the file stays as long as it was. Assumes nothing.
+-- `cases::tables::put` meets its contract. Invariant: the file stays as long as it was. Assumes nothing.
 use mathlib.Core.Path.{_≡_}
 use mathlib.Core.Logic.{⊎-elim}
 use Prim.Native.Nat.{_-_, _≤_}
@@ -6,8 +6,8 @@ use lib.ListN.{length, length-set}
 use native.Mathlib.Omega.{arith}
 use borrow.Author.Needs.{needs}
 use borrow.Author.Tests.{ltb-true}
-use Rattle.cases.proofs.put.Statement.{statement}
-use Rattle.cases.proofs.put.Tie as tie
+use Rattle.cases.proofs.tables.put.Statement.{statement}
+use Rattle.cases.proofs.tables.put.Tie as tie
 
 abbrev Inv-loop : tie.InvT-loop
 Inv-loop file₀ at bytes i₀ file i = (i ≤ length bytes) × (length file ≡ length file₀)

@@ -1,9 +1,9 @@
--- `cases::message` meets its contract. Assumes nothing.
+-- `cases::steps::message` meets its contract. Assumes nothing.
 use Prim.Native.Nat.{_-_, _≤_}
 use lib.ListN.{length}
 use borrow.Author.Needs.{needs}
-use Rattle.cases.proofs.message.Statement.{statement}
-use Rattle.cases.proofs.message.Tie as tie
+use Rattle.cases.proofs.steps.message.Statement.{statement}
+use Rattle.cases.proofs.steps.message.Tie as tie
 
 abbrev Inv-loop : tie.InvT-loop
 Inv-loop file session₀ symbols i₀ session i = i ≤ length symbols

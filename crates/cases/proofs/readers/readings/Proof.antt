@@ -1,9 +1,9 @@
--- `cases::readings` meets its contract: a file that `check` takes is good. Assumes nothing.
+-- `cases::readers::readings` meets its contract: a file that `check` takes is good. Assumes nothing.
 use mathlib.Core.Path.{ap}
 use borrow.Author.Needs.{needs}
 use Rattle.table.specs.Calls.{numberOf}
-use Rattle.cases.proofs.readings.Statement.{statement}
-use Rattle.cases.proofs.readings.Tie as tie
+use Rattle.cases.proofs.readers.readings.Statement.{statement}
+use Rattle.cases.proofs.readers.readings.Tie as tie
 
 check-requires : tie.Need-check-requires
 check-requires c κs = search needs

@@ -1,8 +1,8 @@
--- `cases::show_rows` meets its contract. Assumes nothing.
+-- `cases::readers::show_rows` meets its contract. Assumes nothing.
 use Prim.Native.Nat.{_-_, _≤_}
 use borrow.Author.Needs.{needs}
-use Rattle.cases.proofs.show_rows.Statement.{statement}
-use Rattle.cases.proofs.show_rows.Tie as tie
+use Rattle.cases.proofs.readers.show_rows.Statement.{statement}
+use Rattle.cases.proofs.readers.show_rows.Tie as tie
 
 abbrev Inv-loop : tie.InvT-loop
 Inv-loop file n i₀ i = i ≤ n

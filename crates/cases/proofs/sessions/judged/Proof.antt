@@ -1,9 +1,9 @@
--- `cases::judged` meets its contract: a file that `check` takes is good. Assumes nothing.
+-- `cases::sessions::judged` meets its contract: a file that `check` takes is good. Assumes nothing.
 use mathlib.Core.Path.{ap}
 use Rattle.table.specs.Calls.{numberOf}
 use borrow.Author.Needs.{needs}
-use Rattle.cases.proofs.judged.Statement.{statement}
-use Rattle.cases.proofs.judged.Tie as tie
+use Rattle.cases.proofs.sessions.judged.Statement.{statement}
+use Rattle.cases.proofs.sessions.judged.Tie as tie
 
 check-requires : tie.Need-check-requires
 check-requires c κs = search needs

@@ -1,10 +1,10 @@
--- `cases::call_rows` meets its contract. Invariant: the file stays as long as it was. Assumes nothing.
+-- `cases::tables::call_rows` meets its contract. Invariant: the file stays as long as it was. Assumes nothing.
 use mathlib.Core.Path.{_≡_}
 use Prim.Native.Nat.{_-_, _≤_}
 use lib.ListN.{length}
 use borrow.Author.Needs.{needs}
-use Rattle.cases.proofs.call_rows.Statement.{statement}
-use Rattle.cases.proofs.call_rows.Tie as tie
+use Rattle.cases.proofs.tables.call_rows.Statement.{statement}
+use Rattle.cases.proofs.tables.call_rows.Tie as tie
 
 abbrev Inv-loop : tie.InvT-loop
 Inv-loop file₀ k₀ file k = (k ≤ 56) × (length file ≡ length file₀)

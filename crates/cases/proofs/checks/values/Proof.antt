@@ -1,11 +1,11 @@
--- `cases::values` meets its contract. Invariant: at most one is counted for each value passed. Assumes nothing.
+-- `cases::checks::values` meets its contract. Invariant: at most one is counted for each value passed. Assumes nothing.
 use mathlib.Core.Path.{_≡_}
 use Prim.Native.Nat.{_-_, _≤_}
 use lib.ListN.{length, length-set}
 use native.Mathlib.Omega.{arith}
 use borrow.Author.Needs.{needs}
-use Rattle.cases.proofs.values.Statement.{statement}
-use Rattle.cases.proofs.values.Tie as tie
+use Rattle.cases.proofs.checks.values.Statement.{statement}
+use Rattle.cases.proofs.checks.values.Tie as tie
 
 abbrev Inv-loop : tie.InvT-loop
 Inv-loop at file₀ sum₀ v₀ file sum v = (v ≤ 256) × (sum ≤ v) × (length file ≡ 354)

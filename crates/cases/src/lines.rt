@@ -1,0 +1,24 @@
+// What is printed: a name with its number, and what a call gave and left.
+use session::places::SIZE;
+
+// One line: what was tried, and the number.
+pub fn say(name: &[u8], n: u64) {
+    io::write_all(1, name);
+    io::write_all(1, b": ");
+    io::print_decimal(1, n);
+    io::write_all(1, b"\n");
+}
+
+pub fn told(n: u64, count: u64) {
+    io::print_decimal(1, n);
+    io::write_all(1, b" ");
+    io::print_decimal(1, count);
+    io::write_all(1, b" ");
+}
+
+pub fn held(session: &[u8; SIZE]) {
+    io::print_decimal(1, session::places::depth(session) as u64);
+    io::write_all(1, b" ");
+    io::print_decimal(1, session::places::count(session) as u64);
+    io::write_all(1, b" ");
+}

@@ -1,0 +1,146 @@
+// Steps: of G, of tables whose runs share a beginning or clash, and of one with 64 links and with a link more.
+use crate::lines::held;
+use crate::lines::say;
+use crate::lines::told;
+use crate::sessions::judged;
+use crate::sessions::opened;
+use crate::sessions::opening;
+use crate::tables::crowd;
+use crate::tables::fork;
+use crate::tables::g;
+use crate::tables::larger_crowd;
+use crate::tables::put;
+use session::places::SIZE;
+ghost use Prim.Native.Nat.{_≤_};
+
+pub fn all() {
+    steps_of_g();
+    refusals_of_g();
+    unsound();
+    conflict();
+    forks();
+    crowds();
+}
+
+// The number that an answer of `step` stands for.
+fn answered(answer: engine::Answer) -> u64 {
+    match answer {
+        engine::Answer::Taken { count: _ } => 0,
+        engine::Answer::BadTable => 1,
+        engine::Answer::BadSession => 2,
+        engine::Answer::UnknownSymbol => 3,
+        engine::Answer::Unopened => 4,
+        engine::Answer::TooDeep => 5,
+        engine::Answer::NoRun => 6,
+        engine::Answer::Crowded => 7,
+        engine::Answer::Conflict => 8,
+        engine::Answer::Backlog => 9,
+        engine::Answer::NoRoom => 10,
+    }
+}
+
+// The byte count that an answer of `step` gives.
+fn sent(answer: engine::Answer) -> u64 {
+    match answer {
+        engine::Answer::Taken { count } => count as u64,
+        _ => 0,
+    }
+}
+
+// One symbol, with so much room of four dots: the number, the byte count, the depth and the links after it, and the dots.
+fn took(file: &[u8], session: &mut [u8; SIZE], symbol: u8, room: usize)
+    requires { ⌜ room ≤ 4 ⌝ }
+{
+    let mut out = [46u8; 4];
+    let answer = lent(file, session, symbol, &mut out[..], room);
+    io::write_all(1, b"step ");
+    io::print_decimal(1, symbol as u64);
+    io::write_all(1, b": ");
+    told(answered(answer), sent(answer));
+    held(session);
+    io::write_all(1, &out[..]);
+    io::write_all(1, b"\n");
+}
+
+// A step that is lent so much of an output.
+fn lent(
+    file: &[u8],
+    session: &mut [u8; SIZE],
+    symbol: u8,
+    out: &mut [u8],
+    room: usize,
+) -> engine::Answer
+    requires { do ⌜ room ≤ (← ⟦out.len()⟧) ⌝ }
+{
+    engine::step(file, session, symbol, &mut out[..room])
+}
+
+// Symbol after symbol, with all the room.
+fn message(file: &[u8], session: &mut [u8; SIZE], symbols: &[u8]) {
+    let mut i = 0;
+    while i < symbols.len() {
+        took(file, session, symbols[i], 4);
+        i += 1;
+    }
+}
+
+fn steps_of_g() {
+    let file = g();
+    let mut session = [0u8; SIZE];
+    say(b"steps of G", opened(&file[..], &mut session));
+    took(&file[..], &mut session, 10, 0);
+    took(&file[..], &mut session, 10, 1);
+    message(&file[..], &mut session, b"\x01\x01\x01\x01\x0c");
+}
+
+fn refusals_of_g() {
+    let mut file = g();
+    let mut session = [0u8; SIZE];
+    say(b"refusals of G", opened(&file[..], &mut session));
+    message(&file[..], &mut session, b"\x07\x0b\x01\x0a\x0a");
+    put(&mut file[..], 3, b"\x01");
+    message(&file[..], &mut session, b"\x0a");
+    put(&mut file[..], 1, b"\x02");
+    message(&file[..], &mut session, b"\x01");
+}
+
+// G after 10, with a byte in a place not used.
+fn unsound() {
+    let file = g();
+    let mut session = opening();
+    put(&mut session[..], 33217, b"\x01");
+    say(b"an unsound session", judged(&file[..], &session));
+    message(&file[..], &mut session, b"\x01");
+}
+
+// G with `ON` leading to 1 as `OK` does: one trail, two outputs.
+fn conflict() {
+    let mut file = g();
+    put(&mut file[..], 326, b"\x01");
+    let mut session = [0u8; SIZE];
+    say(b"a conflict", opened(&file[..], &mut session));
+    message(&file[..], &mut session, b"\x0a");
+}
+
+fn forks() {
+    forked(b"a and b", b"\x02\x00\x01");
+    forked(b"a and ab", b"\x01\x00\x02");
+    forked(b"a and a", b"\x00\x00\x01");
+}
+
+fn forked(name: &[u8], word: &[u8]) {
+    let file = fork(word);
+    let mut session = [0u8; SIZE];
+    say(name, opened(&file[..], &mut session));
+    message(&file[..], &mut session, b"\x01");
+}
+
+fn crowds() {
+    let file = crowd();
+    let mut session = [0u8; SIZE];
+    say(b"a crowd", opened(&file[..], &mut session));
+    message(&file[..], &mut session, b"\x0a\x0a");
+    let larger = larger_crowd();
+    say(b"one row more", opened(&larger[..], &mut session));
+    message(&larger[..], &mut session, b"\x0a");
+}
