@@ -9,6 +9,7 @@ pub fn say(name: &[u8], n: u64) {
     io::write_all(1, b"\n");
 }
 
+// The number and the byte count that a call gave.
 pub fn told(n: u64, count: u64) {
     io::print_decimal(1, n);
     io::write_all(1, b" ");
@@ -16,6 +17,7 @@ pub fn told(n: u64, count: u64) {
     io::write_all(1, b" ");
 }
 
+// The depth of a session, and how many links it has.
 pub fn held(session: &[u8; SIZE]) {
     io::print_decimal(1, session::places::depth(session) as u64);
     io::write_all(1, b" ");

@@ -1,5 +1,6 @@
 // Runs the cases that are not proved, and prints what each gives; `stdout` beside this folder holds what it must be.
 mod checks;
+mod ends;
 mod lines;
 mod readers;
 mod sessions;
@@ -11,4 +12,5 @@ fn main() {
     readers::all();
     sessions::all();
     steps::all();
+    ends::all();
 }

@@ -1,4 +1,4 @@
-// Steps: of G, of tables whose runs share a beginning or clash, and of one with 64 links and with a link more.
+// Steps: of G, of a table whose runs clash, and of one with 64 links and with a link more.
 use crate::lines::held;
 use crate::lines::say;
 use crate::lines::told;
@@ -6,7 +6,6 @@ use crate::sessions::judged;
 use crate::sessions::opened;
 use crate::sessions::opening;
 use crate::tables::crowd;
-use crate::tables::fork;
 use crate::tables::g;
 use crate::tables::larger_crowd;
 use crate::tables::put;
@@ -18,7 +17,6 @@ pub fn all() {
     refusals_of_g();
     unsound();
     conflict();
-    forks();
     crowds();
 }
 
@@ -47,7 +45,7 @@ fn sent(answer: engine::Answer) -> u64 {
     }
 }
 
-// One symbol, with so much room of four dots: the number, the byte count, the depth and the links after it, and the dots.
+// One symbol, with so much room of four dots: the number, the byte count, depth and links after it, and the dots.
 fn took(file: &[u8], session: &mut [u8; SIZE], symbol: u8, room: usize)
     requires { ⌜ room ≤ 4 ⌝ }
 {
@@ -76,7 +74,7 @@ fn lent(
 }
 
 // Symbol after symbol, with all the room.
-fn message(file: &[u8], session: &mut [u8; SIZE], symbols: &[u8]) {
+pub fn message(file: &[u8], session: &mut [u8; SIZE], symbols: &[u8]) {
     let mut i = 0;
     while i < symbols.len() {
         took(file, session, symbols[i], 4);
@@ -120,19 +118,6 @@ fn conflict() {
     let mut session = [0u8; SIZE];
     say(b"a conflict", opened(&file[..], &mut session));
     message(&file[..], &mut session, b"\x0a");
-}
-
-fn forks() {
-    forked(b"a and b", b"\x02\x00\x01");
-    forked(b"a and ab", b"\x01\x00\x02");
-    forked(b"a and a", b"\x00\x00\x01");
-}
-
-fn forked(name: &[u8], word: &[u8]) {
-    let file = fork(word);
-    let mut session = [0u8; SIZE];
-    say(name, opened(&file[..], &mut session));
-    message(&file[..], &mut session, b"\x01");
 }
 
 fn crowds() {
