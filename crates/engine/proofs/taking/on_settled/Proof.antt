@@ -44,7 +44,7 @@ write-requires c κs =
     let start = tested .before .before .before .before .before .before in
     let s = start .pre in
     let cuts = settled-cuts s (omega arith) (start .args .out .now) (omega arith) in
-    (s .left .opened .ready .sound .kept, cuts, settled-depth s)
+    (s .left .opened .ready .sound .kept, cuts, omega (arith, settled-depth s, s .drafts .few))
 
 same-length : tie.Need-same-length
 same-length c = search needs
