@@ -1,0 +1,1 @@
+-- How long lines are. Assumes nothing.

@@ -1,0 +1,12 @@
+-- What the functions that put text leave.
+use mathlib.Core.Path.{_≡_}
+use mathlib.Core.List.{List, _++_}
+use Prim.Native.Nat.{ℕ, _+_, _≤_}
+use lib.ListN.{length, take, drop}
+use Rattle.words.specs.Words.{Word}
+
+-- `w` was written from the place `at` on, the place after it is `r`, and everything else is as it was
+pub record Appended (text : List ℕ) (at : ℕ) (w : Word) (r : ℕ) (text′ : List ℕ) : Type 0 where
+  pub next : r ≡ at + length w
+  pub within : r ≤ length text
+  pub is : text′ ≡ take at text ++ w ++ drop r text
