@@ -7,7 +7,8 @@ use Prim.Native.Nat.{ℕ, zero, suc, _+_, _-_, _*_, _/_, _%_, _^_, _<_, _≤_}
 use native.Mathlib.Nat.{pow-suc, pow-zero, one-le-pow}
 use native.Mathlib.Numerals.{add-one}
 use native.Mathlib.Omega.{arith}
-use lib.ListN.{length, length-append}
+use lib.ListN.{length, take, getD, length-append}
+use lib.Seq.{take-suc, length-take-le}
 use borrow.Author.Tests.{lt-ltb, le-ltb}
 use Rattle.io.specs.Digits.{glyph, digits, Fewest}
 use Rattle.words.specs.Words.{Word}
@@ -75,10 +76,22 @@ hex-long [] = refl
 hex-long (b ∷ w) = omega (arith, hex-long w)
 
 -- one byte more
-pub hex-more : (w : Word) (b : ℕ) → hex (w ++ b ∷ []) ≡ hex w ++ glyph (b / 16) ∷ glyph (b % 16) ∷ []
+hex-more : (w : Word) (b : ℕ) → hex (w ++ b ∷ []) ≡ hex w ++ hex (b ∷ [])
 hex-more [] b = refl
 hex-more (a ∷ w) b = rw (hex-more w b)
 
-pub dash-hex : (w : Word) → 0 < length w → hexOrDash w ≡ hex w
-dash-hex [] lt = absurd (omega arith)
-dash-hex (b ∷ w) lt = refl
+pub hex-next : (w : Word) (i : ℕ) → i < length w → hex (take (i + 1) w) ≡ hex (take i w) ++ hex (getD w i 0 ∷ [])
+hex-next w i lt = rw (add-one, take-suc w i 0) (hex-more (take i w) (getD w i 0))
+
+-- what the first bytes take
+pub hex-first : (w : Word) (i : ℕ) → i ≤ length w → length (hex (take i w)) ≡ 2 * i
+hex-first w i le = hex-long (take i w) ∙ ap (λ (n : ℕ). 2 * n) (length-take-le i w le)
+
+-- a dash exactly where there are none
+pub no-bytes : (w : Word) → length w ≡ 0 → hexOrDash w ≡ 45 ∷ []
+no-bytes [] e = refl
+no-bytes (b ∷ w) e = absurd (omega arith)
+
+pub hex-or-dash : (w : Word) → (length w ≡ 0 → ⊥) → hexOrDash w ≡ hex w
+hex-or-dash [] some = absurd (some refl)
+hex-or-dash (b ∷ w) some = refl

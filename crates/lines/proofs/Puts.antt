@@ -8,7 +8,7 @@ use native.Mathlib.Omega.{arith}
 use lib.ListN.{length, take, drop, set, length-append, length-drop, take-append-drop}
 use lib.Seq.{append-snoc, length-take-le, take-length, take-at, drop-append-add, drop-drop, set-split, paste}
 use Rattle.words.specs.Words.{Word}
-use Rattle.lines.specs.Calls.{Appended}
+use Rattle.lines.specs.Calls.{Room, Appended}
 
 pub appended-none : (text : List ℕ) (at : ℕ) → at ≤ length text → Appended text at [] at text
 appended-none text at le =
@@ -18,19 +18,23 @@ appended-none text at le =
       is = sym (rw append-nil (take-append-drop at text));
     }
 
-pub appended-byte : (text : List ℕ) (at b : ℕ) → at < length text
+pub appended-byte : (text : List ℕ) (at b : ℕ) → Room text at (b ∷ [])
     → Appended text at (b ∷ []) (at + 1) (set text at b)
-appended-byte text at b lt =
+appended-byte text at b room =
     record {
       next = refl;
-      within = omega arith;
-      is = rw (add-one, append-snoc) (set-split text at b lt);
+      within = room .fits;
+      is = rw (add-one, append-snoc) (set-split text at b (omega (arith, room .fits)));
     }
 
 -- as `words::copy` leaves them
-pub appended-bytes : (text : List ℕ) (at : ℕ) (w : Word) {text′ : List ℕ} → at + length w ≤ length text
+pub appended-bytes : (text : List ℕ) (at : ℕ) (w : Word) {text′ : List ℕ} → Room text at w
     → text′ ≡ paste text at w (length w) → Appended text at w (at + length w) text′
-appended-bytes text at w le e = record { next = refl; within = le; is = rw take-length at e }
+appended-bytes text at w room e = record { next = refl; within = room .fits; is = rw take-length at e }
+
+-- where a text has room, what it begins with has
+pub room-front : {text : List ℕ} {at : ℕ} (v w : Word) → Room text at (v ++ w) → Room text at v
+room-front v w room = record { fits = omega (arith, length-append v w, room .fits) }
 
 module _ {text : List ℕ} {at : ℕ} {v : Word} {r : ℕ} {text′ : List ℕ} (a : Appended text at v r text′) where
   front : length (take at text ++ v) ≡ r
@@ -44,6 +48,10 @@ module _ {text : List ℕ} {at : ℕ} {v : Word} {r : ℕ} {text′ : List ℕ} 
       ap length (a .is)
       ∙ length-append (take at text ++ v) (drop r text)
       ∙ omega (arith, front, length-drop r text, a .within)
+
+  -- what is left of the room
+  pub room-behind : (w : Word) → Room text at (v ++ w) → Room text′ r w
+  room-behind w room = record { fits = omega (arith, length-append v w, a .next, appended-whole, room .fits) }
 
   -- and `w` behind it
   pub appended-next : {w : Word} {s : ℕ} {text″ : List ℕ} → Appended text′ r w s text″ → Appended text at (v ++ w) s text″

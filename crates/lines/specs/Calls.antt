@@ -1,9 +1,13 @@
--- What the functions that put text leave.
+-- What the functions that put text ask and leave.
 use mathlib.Core.Path.{_≡_}
 use mathlib.Core.List.{List, _++_}
 use Prim.Native.Nat.{ℕ, _+_, _≤_}
 use lib.ListN.{length, take, drop}
 use Rattle.words.specs.Words.{Word}
+
+-- a text has room for `w` from the place `at` on
+pub record Room (text : List ℕ) (at : ℕ) (w : Word) : Type 0 where
+  pub fits : at + length w ≤ length text
 
 -- `w` was written from the place `at` on, the place after it is `r`, and everything else is as it was
 pub record Appended (text : List ℕ) (at : ℕ) (w : Word) (r : ℕ) (text′ : List ℕ) : Type 0 where

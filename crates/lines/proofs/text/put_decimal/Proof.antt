@@ -1,0 +1,44 @@
+-- `lines::text::put_decimal` meets its contract: what `io` spells is the number. Assumes nothing.
+use mathlib.Core.Path.{_≡_, _∙_, ap}
+use native.Mathlib.Omega.{arith}
+use lib.ListN.{length, take}
+use Rattle.lines.specs.Text.{decimal}
+use Rattle.lines.proofs.Numerals.{decimal-spelled}
+use borrow.Author.Needs.{needs}
+use Rattle.lines.proofs.text.put_decimal.Statement.{statement}
+use Rattle.lines.proofs.text.put_decimal.Tie as tie
+
+-- what is handed on
+handed : (c : tie.After-decimal) → take (c .decimal .result) (c .decimal .last .1 .0) ≡ decimal (c .before .before .before .args .n)
+handed c = c .decimal .ensures .1 .1 ∙ decimal-spelled _ _ (c .decimal .ensures .1 .0)
+
+decimal-requires : tie.Need-decimal-requires
+decimal-requires c κs = search needs
+
+array-share-prefix-digits : tie.Need-array-share-prefix-digits
+array-share-prefix-digits c = search needs
+
+slice-aggregate-put-bytes : tie.Need-slice-aggregate-put-bytes
+slice-aggregate-put-bytes c = search needs
+
+put-bytes-requires : tie.Need-put-bytes-requires
+put-bytes-requires c κs = omega (arith, ap length (handed (c .before .before)))
+
+same-length : tie.Need-same-length
+same-length c = search needs
+
+returns : tie.Need-returns
+returns c =
+    let put = c .before .before in
+    rw (handed (put .before .before .before)) at (put .put-bytes .ensures)
+
+pub put-decimal-spec : {M : Type 1} → statement M
+put-decimal-spec =
+    tie.close
+    (tie.spec
+    decimal-requires
+    array-share-prefix-digits
+    slice-aggregate-put-bytes
+    put-bytes-requires
+    same-length
+    returns)

@@ -1,0 +1,29 @@
+-- `lines::text::put_last` meets its contract. Assumes nothing.
+use mathlib.Core.List.{[], _∷_}
+use native.Mathlib.Omega.{arith}
+use lib.ListN.{length, length-append}
+use Rattle.lines.specs.Text.{hexOrDash}
+use Rattle.lines.proofs.Puts.{room-behind, appended-next}
+use borrow.Author.Needs.{needs}
+use Rattle.lines.proofs.text.put_last.Statement.{statement}
+use Rattle.lines.proofs.text.put_last.Tie as tie
+
+put-hex-requires : tie.Need-put-hex-requires
+put-hex-requires c κs =
+    omega (arith, length-append (hexOrDash (c .before .before .before .args .bytes .now)) (10 ∷ []))
+
+put-byte-requires : tie.Need-put-byte-requires
+put-byte-requires c κs =
+    let put = c .before .before .before in
+    omega (arith, room-behind (put .put-hex .ensures) (10 ∷ []) (put .before .before .before .before .pre))
+
+same-length : tie.Need-same-length
+same-length c = search needs
+
+returns : tie.Need-returns
+returns c =
+    let second = c .before .before in
+    appended-next (second .before .before .before .before .put-hex .ensures) (second .put-byte .ensures)
+
+pub put-last-spec : {M : Type 1} → statement M
+put-last-spec = tie.close (tie.spec put-hex-requires put-byte-requires same-length returns)
