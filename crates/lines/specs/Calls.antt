@@ -3,7 +3,12 @@ use mathlib.Core.Path.{_≡_}
 use mathlib.Core.List.{List, _++_}
 use Prim.Native.Nat.{ℕ, _+_, _≤_}
 use lib.ListN.{length, take, drop}
+use Rattle.words.specs.Lists.{Exact}
 use Rattle.words.specs.Words.{Word}
+use Rattle.session.specs.Bytes.{sessionOf}
+use Rattle.engine.specs.Calls.{Stepped}
+use Rattle.lines.specs.Text.{line}
+use Rattle.lines.specs.declared.symbols.Tried.{Tried}
 
 -- a text has room for `w` from the place `at` on
 pub record Room (text : List ℕ) (at : ℕ) (w : Word) : Type 0 where
@@ -14,3 +19,12 @@ pub record Appended (text : List ℕ) (at : ℕ) (w : Word) (r : ℕ) (text′ :
   pub next : r ≡ at + length w
   pub within : r ≤ length text
   pub is : text′ ≡ take at text ++ w ++ drop r text
+
+-- a symbol was tried, and its line put: "place from 1, symbol, number given back, depth after, bytes sent"
+pub record Told (file session : List ℕ) (symbol : ℕ) (out : List ℕ) (place : ℕ) (text : List ℕ) (at : ℕ) (r : Tried)
+    (session′ out′ text′ : List ℕ) : Type 0 where
+  pub number : ℕ
+  pub count : ℕ
+  pub stepped : Stepped file session symbol out number count session′ out′
+  pub taken : Exact (number ≡ 0) (r .taken)
+  pub put : Appended text at (line place symbol number (sessionOf session′ .depth) (take count out′)) (r .next) text′

@@ -1,0 +1,42 @@
+-- A symbol that was tried, and its line: what is known of step's answer when the line is put, and that its contract
+-- allows one answer. Assumes nothing.
+use mathlib.Core.Path.{_≡_, refl, sym, _∙_, ap}
+use mathlib.Core.Bool.{Bool, true, false}
+use mathlib.Core.List.{List, _++_}
+use Prim.Native.Nat.{ℕ, _+_, _*_, _^_, _<_, _≤_}
+use native.Mathlib.Omega.{arith}
+use lib.Dec.{eqb}
+use lib.ListN.{length, drop, take, length-append}
+use lib.Seq.{length-take-le}
+use borrow.Author.Tests.{eqb-true, eqb-false}
+use Rattle.words.specs.Words.{Word}
+use Rattle.engine.specs.Calls.{Stepped, Answered, numberOf, countOf, sendsOn}
+use Rattle.engine.specs.declared.taking.Answer.{Answer}
+use Rattle.lines.specs.Text.{line}
+use Rattle.lines.specs.Calls.{Room}
+use Rattle.lines.proofs.Short.{line-short}
+
+module _ {file session : List ℕ} {symbol : ℕ} {out session′ out′ : List ℕ} where
+  -- by the number and the count that an answer stands for
+  pub said-stepped : (r : Answer) (number count : ℕ) → number ≡ numberOf r → count ≡ countOf r
+      → Answered file session symbol out r session′ out′ → Stepped file session symbol out number count session′ out′
+  said-stepped r number count e f a = rw (e, f) a
+
+  -- what was sent stands in the output
+  pub sent-within : (number count : ℕ) → Stepped file session symbol out number count session′ out′
+      → count ≤ length out′
+  sent-within number count s = by (eqb number 0) refl
+    where
+      by : (b : Bool) → eqb number 0 ≡ b → count ≤ length out′
+      by true e =
+          let zero = eqb-true number 0 e in
+          let long = ap length (s .written zero) in
+          omega (arith, s .counted zero, simp length-append at long)
+      by false e = omega (arith, s .refused (eqb-false number 0 e) .0)
+
+-- a line has room where its longest has
+pub line-room : (text : List ℕ) (at place symbol number depth : ℕ) (w : Word) (n : ℕ) → place < 2 ^ 64 → symbol < 2 ^ 8
+    → number < 2 ^ 8 → depth < 2 ^ 64 → length w ≤ n → at + 2 * n + 52 ≤ length text
+    → Room text at (line place symbol number depth w)
+line-room text at place symbol number depth w n a b c d le room =
+    record { fits = omega (arith, line-short place symbol number depth w a b c d) }

@@ -1,1 +1,0 @@
--- How long lines are. Assumes nothing.

@@ -1,0 +1,75 @@
+-- `lines::symbols::put_symbol` meets its contract: what step answered is what its line says. Assumes nothing.
+use mathlib.Core.Path.{sym}
+use native.Mathlib.Omega.{arith}
+use lib.ListN.{length, take}
+use lib.Seq.{length-take-le}
+use borrow.Author.Needs.{needs}
+use borrow.Author.Tests.{eq-eqb, eqb-true}
+use Rattle.lines.proofs.Lined.{said-stepped, sent-within, line-room}
+use Rattle.lines.proofs.symbols.put_symbol.Statement.{statement}
+use Rattle.lines.proofs.symbols.put_symbol.Tie as tie
+
+step-in-requires : tie.Need-step-in-requires
+step-in-requires c κs = search needs
+
+read-requires : tie.Need-read-requires
+read-requires c κs = search needs
+
+depth-requires : tie.Need-depth-requires
+depth-requires c κs = search needs
+
+slice-reshare-prefix-put-line : tie.Need-slice-reshare-prefix-put-line
+slice-reshare-prefix-put-line c =
+    let heard = c .before .before .before in
+    let stepped = heard .before .before .before in
+    sent-within _ _
+    (said-stepped (stepped .step-in .result) _ _ (heard .read .ensures .0) (heard .read .ensures .1)
+    (stepped .step-in .ensures))
+
+slice-aggregate-put-line : tie.Need-slice-aggregate-put-line
+slice-aggregate-put-line c = sym (length-take-le _ _ (slice-reshare-prefix-put-line (c .before)))
+
+put-line-requires : tie.Need-put-line-requires
+put-line-requires c κs =
+    let heard = c .before .before .before .before in
+    let stepped = heard .before .before .before in
+    let start = stepped .before .before .before .before .before .before .before in
+    let sent = take (heard .read .result .count) (stepped .step-in .last .1 .1 .1 .0) in
+    let long = slice-aggregate-put-line c in
+    line-room _ _ _ _ _ _ sent (length (start .args .out .now)) (omega arith) (omega arith) (omega arith) (omega arith)
+    (omega (arith, long, slice-reshare-prefix-put-line (c .before))) (omega arith)
+
+same-length : tie.Need-same-length
+same-length c = search needs
+
+same-length-2 : tie.Need-same-length-2
+same-length-2 c = search needs
+
+returns : tie.Need-returns
+returns c =
+    let put = c .before .before in
+    let heard = put .before .before .before .before .before in
+    let stepped = heard .before .before .before in
+    record {
+      number = heard .read .result .number;
+      count = heard .read .result .count;
+      stepped =
+          said-stepped (stepped .step-in .result) _ _ (heard .read .ensures .0) (heard .read .ensures .1)
+          (stepped .step-in .ensures);
+      taken = (λ e. eq-eqb _ _ e, λ e. eqb-true _ _ e);
+      put = rw (put .before .before .before .depth .ensures) at (put .put-line .ensures);
+    }
+
+pub put-symbol-spec : {M : Type 1} → statement M
+put-symbol-spec =
+    tie.close
+    (tie.spec
+    step-in-requires
+    read-requires
+    depth-requires
+    slice-reshare-prefix-put-line
+    slice-aggregate-put-line
+    put-line-requires
+    same-length
+    same-length-2
+    returns)
