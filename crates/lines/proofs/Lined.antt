@@ -10,11 +10,15 @@ use lib.ListN.{length, drop, take, length-append}
 use lib.Seq.{length-take-le}
 use borrow.Author.Tests.{eqb-true, eqb-false}
 use Rattle.words.specs.Words.{Word}
+use Rattle.words.proofs.Exact.{exact-same}
 use Rattle.engine.specs.Calls.{Stepped, Answered, numberOf, countOf, sendsOn}
 use Rattle.engine.specs.declared.taking.Answer.{Answer}
 use Rattle.lines.specs.Text.{line}
-use Rattle.lines.specs.Calls.{Room}
+use Rattle.lines.specs.Calls.{Room, Told}
+use Rattle.lines.specs.declared.symbols.Tried.{Tried}
+use Rattle.engine.proofs.Told.{stepped-unique}
 use Rattle.lines.proofs.Short.{line-short}
+use Rattle.lines.proofs.Puts.{appended-unique}
 
 module _ {file session : List ℕ} {symbol : ℕ} {out session′ out′ : List ℕ} where
   -- by the number and the count that an answer stands for
@@ -40,3 +44,18 @@ pub line-room : (text : List ℕ) (at place symbol number depth : ℕ) (w : Word
     → Room text at (line place symbol number depth w)
 line-room text at place symbol number depth w n a b c d le room =
     record { fits = omega (arith, line-short place symbol number depth w a b c d) }
+
+-- two answers that meet the contract are the same, and so is all that they leave behind
+module _ {file session : List ℕ} {symbol : ℕ} {out : List ℕ} {place : ℕ} {text : List ℕ} {at : ℕ} where
+  pub told-unique : {r q : Tried} {s s′ o o′ t t′ : List ℕ} → Told file session symbol out place text at r s o t
+      → Told file session symbol out place text at q s′ o′ t′ → (r ≡ q) × (s ≡ s′) × (o ≡ o′) × (t ≡ t′)
+  told-unique {r} {q} {s} {s′} {o} {o′} {t} {t′} a b =
+      let same = stepped-unique file session symbol out (a .stepped) (b .stepped) in
+      let texts = appended-unique {q = q .next} {u = t′} (a .put) (rw (same .0, same .1, same .2, same .3) (b .put)) in
+      (tried (exact-same (a .taken) (rw (same .0) (b .taken))) (texts .0), same .2, same .3, texts .1)
+    where
+      made : Bool → ℕ → Tried
+      made b n = record { taken = b; next = n }
+
+      tried : r .taken ≡ q .taken → r .next ≡ q .next → r ≡ q
+      tried e f = ap (λ (b : Bool). made b (r .next)) e ∙ ap (made (q .taken)) f

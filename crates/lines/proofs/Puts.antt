@@ -74,3 +74,10 @@ module _ {text : List ℕ} {at : ℕ} {v : Word} {r : ℕ} {text′ : List ℕ} 
           ∙ drop-append-add (take at text ++ v) (drop r text) (length w)
           ∙ drop-drop (length w) r text
           ∙ ap (λ (k : ℕ). drop k text) f)
+
+-- two answers that meet the contract are the same, and so are the texts
+pub appended-unique : {text : List ℕ} {at : ℕ} {w : Word} {r q : ℕ} {t u : List ℕ} → Appended text at w r t
+    → Appended text at w q u → (r ≡ q) × (t ≡ u)
+appended-unique {text} {at} {w} a b =
+    let e = a .next ∙ sym (b .next) in
+    (e, a .is ∙ ap (λ (k : ℕ). take at text ++ w ++ drop k text) e ∙ sym (b .is))
