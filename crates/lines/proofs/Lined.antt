@@ -38,12 +38,15 @@ module _ {file session : List ℕ} {symbol : ℕ} {out session′ out′ : List 
           omega (arith, s .counted zero, simp length-append at long)
       by false e = omega (arith, s .refused (eqb-false number 0 e) .0)
 
--- a line has room where its longest has
-pub line-room : (text : List ℕ) (at place symbol number depth : ℕ) (w : Word) (n : ℕ) → place < 2 ^ 64 → symbol < 2 ^ 8
-    → number < 2 ^ 8 → depth < 2 ^ 64 → length w ≤ n → at + 2 * n + 52 ≤ length text
-    → Room text at (line place symbol number depth w)
-line-room text at place symbol number depth w n a b c d le room =
-    record { fits = omega (arith, line-short place symbol number depth w a b c d) }
+-- a line that sends at most `n` bytes, and a text that has room for the longest of these
+module _ (place symbol number depth : ℕ) (w : Word) (n : ℕ) (in-place : place < 2 ^ 64) (in-symbol : symbol < 2 ^ 8)
+    (in-number : number < 2 ^ 8) (in-depth : depth < 2 ^ 64) (few : length w ≤ n) where
+  pub line-most : length (line place symbol number depth w) ≤ 2 * n + 52
+  line-most = omega (arith, line-short place symbol number depth w in-place in-symbol in-number in-depth)
+
+  pub line-room : (text : List ℕ) (at : ℕ) → at + 2 * n + 52 ≤ length text
+      → Room text at (line place symbol number depth w)
+  line-room text at room = record { fits = omega (arith, line-most) }
 
 -- two answers that meet the contract are the same, and so is all that they leave behind
 module _ {file session : List ℕ} {symbol : ℕ} {out : List ℕ} {place : ℕ} {text : List ℕ} {at : ℕ} where

@@ -1,7 +1,7 @@
 -- What the functions that put text ask and leave.
 use mathlib.Core.Path.{_≡_}
 use mathlib.Core.List.{List, _++_}
-use Prim.Native.Nat.{ℕ, _+_, _≤_}
+use Prim.Native.Nat.{ℕ, _+_, _*_, _≤_}
 use lib.ListN.{length, take, drop}
 use Rattle.words.specs.Lists.{Exact}
 use Rattle.words.specs.Words.{Word}
@@ -27,4 +27,5 @@ pub record Told (file session : List ℕ) (symbol : ℕ) (out : List ℕ) (place
   pub count : ℕ
   pub stepped : Stepped file session symbol out number count session′ out′
   pub taken : Exact (number ≡ 0) (r .taken)
+  pub short : r .next ≤ at + 2 * length out + 52
   pub put : Appended text at (line place symbol number (sessionOf session′ .depth) (take count out′)) (r .next) text′

@@ -1,11 +1,12 @@
 -- `lines::symbols::put_symbol` meets its contract: what step answered is what its line says. Assumes nothing.
 use mathlib.Core.Path.{sym}
+use Prim.Native.Nat.{_≤_}
 use native.Mathlib.Omega.{arith}
 use lib.ListN.{length, take}
 use lib.Seq.{length-take-le}
 use borrow.Author.Needs.{needs}
 use borrow.Author.Tests.{eq-eqb, eqb-true}
-use Rattle.lines.proofs.Lined.{said-stepped, sent-within, line-room}
+use Rattle.lines.proofs.Lined.{said-stepped, sent-within, line-most, line-room}
 use Rattle.lines.proofs.symbols.put_symbol.Statement.{statement}
 use Rattle.lines.proofs.symbols.put_symbol.Tie as tie
 
@@ -36,8 +37,8 @@ put-line-requires c κs =
     let start = stepped .before .before .before .before .before .before .before in
     let sent = take (heard .read .result .count) (stepped .step-in .last .1 .1 .1 .0) in
     let long = slice-aggregate-put-line c in
-    line-room _ _ _ _ _ _ sent (length (start .args .out .now)) (omega arith) (omega arith) (omega arith) (omega arith)
-    (omega (arith, long, slice-reshare-prefix-put-line (c .before))) (omega arith)
+    line-room _ _ _ _ sent (length (start .args .out .now)) (omega arith) (omega arith) (omega arith) (omega arith)
+    (omega (arith, long, slice-reshare-prefix-put-line (c .before))) _ _ (omega arith)
 
 same-length : tie.Need-same-length
 same-length c = search needs
@@ -50,6 +51,16 @@ returns c =
     let put = c .before .before in
     let heard = put .before .before .before .before .before in
     let stepped = heard .before .before .before in
+    let start = stepped .before .before .before .before .before .before .before in
+    let args = start .args in
+    let sent = take (heard .read .result .count) (stepped .step-in .last .1 .1 .1 .0) in
+    let long = slice-aggregate-put-line (put .before) in
+    let few : length sent ≤ length (args .out .now)
+    = omega (arith, long, slice-reshare-prefix-put-line (put .before .before)) in
+    let most =
+    line-most (args .place) (args .symbol) (heard .read .result .number) (put .before .before .before .depth .result)
+    sent (length (args .out .now)) (omega arith) (omega arith) (omega arith) (omega arith) few
+    in
     record {
       number = heard .read .result .number;
       count = heard .read .result .count;
@@ -57,6 +68,7 @@ returns c =
           said-stepped (stepped .step-in .result) _ _ (heard .read .ensures .0) (heard .read .ensures .1)
           (stepped .step-in .ensures);
       taken = (λ e. eq-eqb _ _ e, λ e. eqb-true _ _ e);
+      short = omega (arith, put .put-line .ensures .next, most);
       put = rw (put .before .before .before .depth .ensures) at (put .put-line .ensures);
     }
 

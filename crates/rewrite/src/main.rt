@@ -1,0 +1,188 @@
+// The program: a table length, a table and symbols on standard input; on standard output a line for each symbol that is
+// tried, the first refused one's the last, and then finish's. Where a read or a write fails, standard error says so and
+// nothing more is printed: the end of the input alone is the end of a message.
+use engine::WORK;
+use session::places::SIZE;
+ghost use Prim.Native.Nat.{_+_, _^_, _≤_, _<_};
+ghost use lib.ListN.{length};
+
+// No good table is longer: 28 bytes of head and contents, 256 of classes, 16 of sets, 2,048 of rows, 4,096 of words.
+const LARGEST: usize = 6444;
+
+// The output that is lent, in bytes.
+const OUT: usize = 1024;
+
+// How many symbols are read at once, and how many bytes their lines can take: 52, and two for each byte of the output.
+const BLOCK: usize = 64;
+
+const TEXT: usize = 134400;
+
+// No message comes so far: with more places a loop that ends would have to count further than 64 bits.
+const MOST: u64 = 0xffff_ffff_ffff_ff00;
+
+fn main() {
+    let mut head = [0u8; 2];
+    let got = fill(&mut head[..]);
+    if got.failed {
+        return;
+    }
+    if got.count < 2 {
+        no_table();
+        return;
+    }
+    let length = table::load_two(&head[..], 0);
+    if LARGEST < length {
+        no_table();
+        return;
+    }
+    let mut file = [0u8; LARGEST];
+    let got = fill(&mut file[..length]);
+    if got.failed {
+        return;
+    }
+    if got.count < length {
+        no_table();
+        return;
+    }
+    on_table(&file[..length]);
+}
+
+// How many bytes a read gave, 0 at the end of the input, and whether it failed.
+struct Got {
+    failed: bool,
+    count: usize,
+}
+
+// One read, which waits only where nothing has come.
+fn read_some(buf: &mut [u8]) -> Got
+    ensures { λ r. ⌜ r .count ≤ length (now (buf .entry)) ⌝ }
+{
+    let got = libc::read(0, buf);
+    if got < 0 {
+        os::fail(b"rewrite: reading failed");
+        return Got {
+            failed: true,
+            count: 0,
+        };
+    }
+    Got {
+        failed: false,
+        count: io::count(got, buf),
+    }
+}
+
+// Reads until `buf` is full or the input ends.
+fn fill(buf: &mut [u8]) -> Got
+    ensures { λ r. ⌜ r .count ≤ length (now (buf .entry)) ⌝ }
+{
+    let mut done: usize = 0;
+    while done < buf.len() {
+        let got = read_some(&mut buf[done..]);
+        if got.count == 0 {
+            return Got {
+                failed: got.failed,
+                count: done,
+            };
+        }
+        done += got.count;
+    }
+    Got {
+        failed: false,
+        count: done,
+    }
+}
+
+fn no_table() {
+    let mut text = [0u8; 8];
+    let end = lines::put_no_table(&mut text[..], 0);
+    say(&text[..end]);
+}
+
+// Writes text, and answers whether it could.
+fn say(text: &[u8]) -> bool {
+    let written = io::write_all(1, text);
+    if !written {
+        os::fail(b"rewrite: writing failed");
+    }
+    written
+}
+
+fn on_table(file: &[u8]) {
+    let mut session = [0u8; SIZE];
+    match session::begin(file, &mut session) {
+        session::Opening::BadTable => no_table(),
+        session::Opening::Taken { states: _ } => on_session(file, &mut session),
+    }
+}
+
+fn on_session(file: &[u8], session: &mut [u8; SIZE]) {
+    let mut out = [0u8; OUT];
+    let mut work = [0u8; WORK];
+    let mut text = [0u8; TEXT];
+    let mut place: u64 = 0;
+    while place < MOST {
+        let taken = on_input(file, session, place, &mut out, &mut work, &mut text);
+        if taken == 0 {
+            return;
+        }
+        place += taken as u64;
+    }
+}
+
+// Reads symbols, and writes their lines before it returns. Answers how many were taken, 0 where the message is over.
+fn on_input(
+    file: &[u8],
+    session: &mut [u8; SIZE],
+    place: u64,
+    out: &mut [u8; OUT],
+    work: &mut [u8; WORK],
+    text: &mut [u8; TEXT],
+) -> usize
+    requires { ⌜ place + 65 < 2 ^ 64 ⌝ }
+    ensures { λ r. ⌜ r ≤ 64 ⌝ }
+{
+    let mut block = [0u8; BLOCK];
+    let got = read_some(&mut block[..]);
+    let n = got.count;
+    if n == 0 {
+        return 0;
+    }
+    on_symbols(file, session, &block[..n], place, out, work, text)
+}
+
+// The same of symbols that were read.
+fn on_symbols(
+    file: &[u8],
+    session: &mut [u8; SIZE],
+    symbols: &[u8],
+    place: u64,
+    out: &mut [u8; OUT],
+    work: &mut [u8; WORK],
+    text: &mut [u8; TEXT],
+) -> usize
+    requires { ⌜ (length (now symbols) ≤ 64) × (place + 65 < 2 ^ 64) ⌝ }
+    ensures { λ r. ⌜ r ≤ 64 ⌝ }
+{
+    let mut taken = true;
+    let mut at: usize = 0;
+    let mut i: usize = 0;
+    while taken && i < symbols.len() {
+        let tried = lines::put_symbol(
+            file,
+            session,
+            symbols[i],
+            &mut out[..],
+            work,
+            place + i as u64 + 1,
+            &mut text[..],
+            at,
+        );
+        taken = tried.taken;
+        at = tried.next;
+        i += 1;
+    }
+    if say(&text[..at]) && taken {
+        return i;
+    }
+    0
+}
