@@ -2,6 +2,8 @@
 // tried, the first refused one's the last, and then finish's. Where a read or a write fails, standard error says so and
 // nothing more is printed: the end of the input alone is the end of a message.
 use engine::WORK;
+use lines::Tried;
+use lines::put_symbol;
 use session::places::SIZE;
 ghost use Prim.Native.Nat.{_+_, _^_, _≤_, _<_};
 ghost use lib.ListN.{length};
@@ -17,8 +19,8 @@ const BLOCK: usize = 64;
 
 const TEXT: usize = 134400;
 
-// No message comes so far: with more places a loop that ends would have to count further than 64 bits.
-const MOST: u64 = 0xffff_ffff_ffff_ff00;
+// A proved loop has to end, and nothing says that the input does: so it ends at a place that no message comes to.
+const MOST: u64 = 0x8000_0000_0000_0000;
 
 fn main() {
     let mut head = [0u8; 2];
@@ -36,15 +38,22 @@ fn main() {
         return;
     }
     let mut file = [0u8; LARGEST];
-    let got = fill(&mut file[..length]);
+    on_length(&mut file[..], length);
+}
+
+// Reads a table of that many bytes.
+fn on_length(file: &mut [u8], long: usize)
+    requires { ⌜ long ≤ length (now file) ⌝ }
+{
+    let got = fill(&mut file[..long]);
     if got.failed {
         return;
     }
-    if got.count < length {
+    if got.count < long {
         no_table();
         return;
     }
-    on_table(&file[..length]);
+    on_table(&file[..long]);
 }
 
 // How many bytes a read gave, 0 at the end of the input, and whether it failed.
@@ -59,7 +68,7 @@ fn read_some(buf: &mut [u8]) -> Got
 {
     let got = libc::read(0, buf);
     if got < 0 {
-        os::fail(b"rewrite: reading failed");
+        io::write_all(2, b"rewrite: reading failed\n");
         return Got {
             failed: true,
             count: 0,
@@ -102,7 +111,7 @@ fn no_table() {
 fn say(text: &[u8]) -> bool {
     let written = io::write_all(1, text);
     if !written {
-        os::fail(b"rewrite: writing failed");
+        io::write_all(2, b"rewrite: writing failed\n");
     }
     written
 }
@@ -163,26 +172,57 @@ fn on_symbols(
     requires { ⌜ (length (now symbols) ≤ 64) × (place + 65 < 2 ^ 64) ⌝ }
     ensures { λ r. ⌜ r ≤ 64 ⌝ }
 {
-    let mut taken = true;
+    let tried = put_symbols(file, session, symbols, place, out, work, text);
+    let end = tried.next;
+    let all = &text[..];
+    if !say(&all[..end]) {
+        return 0;
+    }
+    if !tried.taken {
+        return 0;
+    }
+    symbols.len()
+}
+
+// Their lines, up to the first that is refused.
+fn put_symbols(
+    file: &[u8],
+    session: &mut [u8; SIZE],
+    symbols: &[u8],
+    place: u64,
+    out: &mut [u8; OUT],
+    work: &mut [u8; WORK],
+    text: &mut [u8; TEXT],
+) -> Tried
+    requires { ⌜ (length (now symbols) ≤ 64) × (place + 65 < 2 ^ 64) ⌝ }
+    ensures { λ r. ⌜ r .next ≤ 134400 ⌝ }
+{
+    let lent = &mut out[..];
+    let all = &mut text[..];
     let mut at: usize = 0;
     let mut i: usize = 0;
-    while taken && i < symbols.len() {
-        let tried = lines::put_symbol(
+    while i < symbols.len() {
+        let tried = put_symbol(
             file,
             session,
             symbols[i],
-            &mut out[..],
+            lent,
             work,
             place + i as u64 + 1,
-            &mut text[..],
+            all,
             at,
         );
-        taken = tried.taken;
         at = tried.next;
+        if !tried.taken {
+            return Tried {
+                taken: false,
+                next: at,
+            };
+        }
         i += 1;
     }
-    if say(&text[..at]) && taken {
-        return i;
+    Tried {
+        taken: true,
+        next: at,
     }
-    0
 }
