@@ -11,14 +11,27 @@ use lib.Seq.{length-take-le}
 use borrow.Author.Tests.{eqb-true, eqb-false}
 use Rattle.words.specs.Words.{Word}
 use Rattle.words.proofs.Exact.{exact-same}
-use Rattle.engine.specs.Calls.{Stepped, Answered, numberOf, countOf, sendsOn}
+use Rattle.stepping.specs.Promises.{Stepped, sendsOn, Finished, restOn}
+use Rattle.stepping.proofs.Told.{stepped-unique, finished-unique}
+use Rattle.engine.specs.Calls.{numberOf, countOf, Answered, endingNumber, endingCount, Ended}
 use Rattle.engine.specs.declared.taking.Answer.{Answer}
-use Rattle.lines.specs.Text.{line}
-use Rattle.lines.specs.Calls.{Room, Told}
-use Rattle.lines.specs.declared.symbols.Tried.{Tried}
-use Rattle.engine.proofs.Told.{stepped-unique}
-use Rattle.lines.proofs.Short.{line-short}
+use Rattle.engine.specs.declared.finishing.Ending.{Ending}
+use Rattle.lines.specs.Text.{line, ending}
+use Rattle.lines.specs.Calls.{Room, Told, EndTold}
+use Rattle.lines.specs.declared.telling.Tried.{Tried}
+use Rattle.lines.proofs.Short.{line-short, ending-short}
 use Rattle.lines.proofs.Puts.{appended-unique}
+
+-- what was written stands in the output
+within : (number count : ℕ) (w out out′ : List ℕ) → ((number ≡ 0 → ⊥) → count ≡ 0) → (number ≡ 0 → count ≡ length w)
+    → (number ≡ 0 → out′ ≡ w ++ drop count out) → count ≤ length out′
+within number count w out out′ refused counted written = by (eqb number 0) refl
+  where
+    by : (b : Bool) → eqb number 0 ≡ b → count ≤ length out′
+    by true e =
+        let zero = eqb-true number 0 e in
+        omega (arith, counted zero, simp length-append at (ap length (written zero)))
+    by false e = omega (arith, refused (eqb-false number 0 e))
 
 module _ {file session : List ℕ} {symbol : ℕ} {out session′ out′ : List ℕ} where
   -- by the number and the count that an answer stands for
@@ -26,17 +39,19 @@ module _ {file session : List ℕ} {symbol : ℕ} {out session′ out′ : List 
       → Answered file session symbol out r session′ out′ → Stepped file session symbol out number count session′ out′
   said-stepped r number count e f a = rw (e, f) a
 
-  -- what was sent stands in the output
   pub sent-within : (number count : ℕ) → Stepped file session symbol out number count session′ out′
       → count ≤ length out′
-  sent-within number count s = by (eqb number 0) refl
-    where
-      by : (b : Bool) → eqb number 0 ≡ b → count ≤ length out′
-      by true e =
-          let zero = eqb-true number 0 e in
-          let long = ap length (s .written zero) in
-          omega (arith, s .counted zero, simp length-append at long)
-      by false e = omega (arith, s .refused (eqb-false number 0 e) .0)
+  sent-within number count s =
+      within number count (sendsOn file session symbol) out out′ (λ no. s .refused no .0) (s .counted) (s .written)
+
+module _ {file session out out′ : List ℕ} where
+  pub said-finished : (r : Ending) (number count : ℕ) → number ≡ endingNumber r → count ≡ endingCount r
+      → Ended file session out r out′ → Finished file session out number count out′
+  said-finished r number count e f a = rw (e, f) a
+
+  pub rest-within : (number count : ℕ) → Finished file session out number count out′ → count ≤ length out′
+  rest-within number count s =
+      within number count (restOn file session) out out′ (λ no. s .refused no .0) (s .counted) (s .written)
 
 -- a line that sends at most `n` bytes, and a text that has room for the longest of these
 module _ (place symbol number depth : ℕ) (w : Word) (n : ℕ) (in-place : place < 2 ^ 64) (in-symbol : symbol < 2 ^ 8)
@@ -47,6 +62,10 @@ module _ (place symbol number depth : ℕ) (w : Word) (n : ℕ) (in-place : plac
   pub line-room : (text : List ℕ) (at : ℕ) → at + 2 * n + 52 ≤ length text
       → Room text at (line place symbol number depth w)
   line-room text at room = record { fits = omega (arith, line-most) }
+
+pub ending-room : (number : ℕ) (w : Word) (n : ℕ) → number < 2 ^ 8 → length w ≤ n → (text : List ℕ) (at : ℕ)
+    → at + 2 * n + 10 ≤ length text → Room text at (ending number w)
+ending-room number w n lt few text at room = record { fits = omega (arith, ending-short number w lt) }
 
 -- two answers that meet the contract are the same, and so is all that they leave behind
 module _ {file session : List ℕ} {symbol : ℕ} {out : List ℕ} {place : ℕ} {text : List ℕ} {at : ℕ} where
@@ -62,3 +81,11 @@ module _ {file session : List ℕ} {symbol : ℕ} {out : List ℕ} {place : ℕ}
 
       tried : r .taken ≡ q .taken → r .next ≡ q .next → r ≡ q
       tried e f = ap (λ (b : Bool). made b (r .next)) e ∙ ap (made (q .taken)) f
+
+pub end-unique : {file session out text : List ℕ} {at r q : ℕ} {o o′ t t′ : List ℕ}
+    → EndTold file session out text at r o t → EndTold file session out text at q o′ t′
+    → (r ≡ q) × (o ≡ o′) × (t ≡ t′)
+end-unique {file} {session} {out} {text} {at} {r} {q} {o} {o′} {t} {t′} a b =
+    let same = finished-unique file session out (a .finished) (b .finished) in
+    let texts = appended-unique {q = q} {u = t′} (a .put) (rw (same .0, same .1, same .2) (b .put)) in
+    (texts .0, same .2, texts .1)

@@ -6,9 +6,9 @@ use lib.ListN.{length, take, drop}
 use Rattle.words.specs.Lists.{Exact}
 use Rattle.words.specs.Words.{Word}
 use Rattle.session.specs.Bytes.{sessionOf}
-use Rattle.engine.specs.Calls.{Stepped}
-use Rattle.lines.specs.Text.{line}
-use Rattle.lines.specs.declared.symbols.Tried.{Tried}
+use Rattle.stepping.specs.Promises.{Stepped, Finished}
+use Rattle.lines.specs.Text.{line, ending}
+use Rattle.lines.specs.declared.telling.Tried.{Tried}
 
 -- a text has room for `w` from the place `at` on
 pub record Room (text : List ℕ) (at : ℕ) (w : Word) : Type 0 where
@@ -29,3 +29,10 @@ pub record Told (file session : List ℕ) (symbol : ℕ) (out : List ℕ) (place
   pub taken : Exact (number ≡ 0) (r .taken)
   pub short : r .next ≤ at + 2 * length out + 52
   pub put : Appended text at (line place symbol number (sessionOf session′ .depth) (take count out′)) (r .next) text′
+
+-- finish was asked, and its line put: "then finish's number and bytes"
+pub record EndTold (file session out text : List ℕ) (at r : ℕ) (out′ text′ : List ℕ) : Type 0 where
+  pub number : ℕ
+  pub count : ℕ
+  pub finished : Finished file session out number count out′
+  pub put : Appended text at (ending number (take count out′)) r text′

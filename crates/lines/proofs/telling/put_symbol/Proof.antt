@@ -1,4 +1,4 @@
--- `lines::symbols::put_symbol` meets its contract: what step answered is what its line says. Assumes nothing.
+-- `lines::telling::put_symbol` meets its contract: what step answered is what its line says. Assumes nothing.
 use mathlib.Core.Path.{sym}
 use Prim.Native.Nat.{_≤_}
 use native.Mathlib.Omega.{arith}
@@ -7,8 +7,8 @@ use lib.Seq.{length-take-le}
 use borrow.Author.Needs.{needs}
 use borrow.Author.Tests.{eq-eqb, eqb-true}
 use Rattle.lines.proofs.Lined.{said-stepped, sent-within, line-most, line-room}
-use Rattle.lines.proofs.symbols.put_symbol.Statement.{statement}
-use Rattle.lines.proofs.symbols.put_symbol.Tie as tie
+use Rattle.lines.proofs.telling.put_symbol.Statement.{statement}
+use Rattle.lines.proofs.telling.put_symbol.Tie as tie
 
 step-in-requires : tie.Need-step-in-requires
 step-in-requires c κs = search needs

@@ -1,14 +1,16 @@
-// A symbol given to `step`, and its line.
+// What `step` and `finish` answer, told by their lines.
+use crate::text::put_ending;
 use crate::text::put_line;
 use engine::Answer;
+use engine::Ending;
 use engine::WORK;
 use session::places;
 use session::places::SIZE;
 ghost use mathlib.Core.Path.{_≡_};
 ghost use Prim.Native.Nat.{_+_, _*_, _≤_};
 ghost use lib.ListN.{length};
-ghost use Rattle.engine.specs.Calls.{numberOf, countOf};
-ghost use Rattle.lines.specs.Calls.{Told};
+ghost use Rattle.engine.specs.Calls.{numberOf, countOf, endingNumber, endingCount};
+ghost use Rattle.lines.specs.Calls.{Told, EndTold};
 
 // What an answer says: its number, and its byte count.
 struct Said {
@@ -72,4 +74,37 @@ pub fn put_symbol(
         taken: number == 0,
         next,
     }
+}
+
+fn read_end(ending: Ending) -> Said
+    ensures { λ r. ⌜ (r .number ≡ endingNumber ending) × (r .count ≡ endingCount ending) ⌝ }
+{
+    match ending {
+        Ending::Taken { count } => Said { number: 0, count },
+        Ending::BadTable => refusal(1),
+        Ending::BadSession => refusal(2),
+        Ending::Unclosed => refusal(11),
+        Ending::NotFinal => refusal(12),
+        Ending::Ambiguous => refusal(13),
+        Ending::NoRoom => refusal(10),
+    }
+}
+
+// Asks `finish`, and puts its line. Answers the place after it.
+pub fn put_end(
+    file: &[u8],
+    session: &[u8; SIZE],
+    out: &mut [u8],
+    text: &mut [u8],
+    at: usize,
+) -> usize
+    requires { ⌜ at + 2 * length (now out) + 10 ≤ length (now text) ⌝ }
+    ensures { λ r. ⌜
+        EndTold (now (file .entry)) (now (session .entry)) (now (out .entry)) (now (text .entry)) at r
+        (now (out .exit)) (now (text .exit)) ⌝ }
+{
+    let said = read_end(engine::finish(file, session, out));
+    let number = said.number;
+    let count = said.count;
+    put_ending(text, at, number, &out[..count])
 }

@@ -1,0 +1,69 @@
+-- `lines::telling::put_end` meets its contract: what finish answered is what its line says. Assumes nothing.
+use mathlib.Core.Path.{sym}
+use native.Mathlib.Omega.{arith}
+use lib.ListN.{length, take}
+use lib.Seq.{length-take-le}
+use borrow.Author.Needs.{needs}
+use Rattle.lines.proofs.Lined.{said-finished, rest-within, ending-room}
+use Rattle.lines.proofs.telling.put_end.Statement.{statement}
+use Rattle.lines.proofs.telling.put_end.Tie as tie
+
+finish-requires : tie.Need-finish-requires
+finish-requires c κs = search needs
+
+read-end-requires : tie.Need-read-end-requires
+read-end-requires c κs = search needs
+
+slice-reshare-prefix-put-ending : tie.Need-slice-reshare-prefix-put-ending
+slice-reshare-prefix-put-ending c =
+    let heard = c .before in
+    let ended = heard .before .before .before in
+    rest-within _ _
+    (said-finished (ended .finish .result) _ _ (heard .read-end .ensures .0) (heard .read-end .ensures .1)
+    (ended .finish .ensures))
+
+slice-aggregate-put-ending : tie.Need-slice-aggregate-put-ending
+slice-aggregate-put-ending c = sym (length-take-le _ _ (slice-reshare-prefix-put-ending (c .before)))
+
+put-ending-requires : tie.Need-put-ending-requires
+put-ending-requires c κs =
+    let heard = c .before .before in
+    let ended = heard .before .before .before in
+    let start = ended .before .before .before .before .before in
+    let rest = take (heard .read-end .result .count) (ended .finish .last .1 .1 .0) in
+    let long = slice-aggregate-put-ending c in
+    ending-room _ rest (length (start .args .out .now)) (omega arith)
+    (omega (arith, long, slice-reshare-prefix-put-ending (c .before))) _ _ (omega arith)
+
+same-length : tie.Need-same-length
+same-length c = search needs
+
+same-length-2 : tie.Need-same-length-2
+same-length-2 c = search needs
+
+returns : tie.Need-returns
+returns c =
+    let put = c .before .before in
+    let heard = put .before .before .before in
+    let ended = heard .before .before .before in
+    record {
+      number = heard .read-end .result .number;
+      count = heard .read-end .result .count;
+      finished =
+          said-finished (ended .finish .result) _ _ (heard .read-end .ensures .0) (heard .read-end .ensures .1)
+          (ended .finish .ensures);
+      put = put .put-ending .ensures;
+    }
+
+pub put-end-spec : {M : Type 1} → statement M
+put-end-spec =
+    tie.close
+    (tie.spec
+    finish-requires
+    read-end-requires
+    slice-reshare-prefix-put-ending
+    slice-aggregate-put-ending
+    put-ending-requires
+    same-length
+    same-length-2
+    returns)
