@@ -3,6 +3,8 @@
 // nothing more is printed: the end of the input alone is the end of a message.
 use engine::WORK;
 use lines::Tried;
+use lines::put_end;
+use lines::put_no_table;
 use lines::put_symbol;
 use session::places::SIZE;
 ghost use Prim.Native.Nat.{_+_, _^_, _≤_, _<_};
@@ -103,7 +105,7 @@ fn fill(buf: &mut [u8]) -> Got
 
 fn no_table() {
     let mut text = [0u8; 8];
-    let end = lines::put_no_table(&mut text[..], 0);
+    let end = put_no_table(&mut text[..], 0);
     say(&text[..end]);
 }
 
@@ -154,6 +156,9 @@ fn on_input(
     let got = read_some(&mut block[..]);
     let n = got.count;
     if n == 0 {
+        if !got.failed {
+            on_end(file, session, out, text);
+        }
         return 0;
     }
     on_symbols(file, session, &block[..n], place, out, work, text)
@@ -225,4 +230,11 @@ fn put_symbols(
         taken: true,
         next: at,
     }
+}
+
+// The end of the message.
+fn on_end(file: &[u8], session: &[u8; SIZE], out: &mut [u8; OUT], text: &mut [u8; TEXT]) {
+    let end = put_end(file, session, &mut out[..], &mut text[..], 0);
+    let all = &text[..];
+    say(&all[..end]);
 }

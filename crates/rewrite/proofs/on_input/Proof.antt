@@ -12,8 +12,14 @@ slice-aggregate-read-some c = search needs
 read-some-requires : tie.Need-read-some-requires
 read-some-requires c κs = search needs
 
+on-end-requires : tie.Need-on-end-requires
+on-end-requires c κs = search needs
+
 returns : tie.Need-returns
 returns c = search needs
+
+returns-2 : tie.Need-returns-2
+returns-2 c = search needs
 
 array-share-prefix-block : tie.Need-array-share-prefix-block
 array-share-prefix-block c = search needs
@@ -24,8 +30,8 @@ slice-aggregate-on-symbols c = sym (length-take-le _ _ (omega arith))
 on-symbols-requires : tie.Need-on-symbols-requires
 on-symbols-requires c κs = omega (arith, slice-aggregate-on-symbols (c .before .before .before))
 
-returns-2 : tie.Need-returns-2
-returns-2 c = search needs
+returns-3 : tie.Need-returns-3
+returns-3 c = search needs
 
 pub on-input-spec : {M : Type 1} → statement M
 on-input-spec =
@@ -33,8 +39,10 @@ on-input-spec =
     (tie.spec
     slice-aggregate-read-some
     read-some-requires
+    on-end-requires
     returns
+    returns-2
     array-share-prefix-block
     slice-aggregate-on-symbols
     on-symbols-requires
-    returns-2)
+    returns-3)
