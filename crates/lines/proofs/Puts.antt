@@ -1,7 +1,7 @@
 -- What text put into a text leaves: nothing, a byte, bytes, and one text behind another. Assumes nothing.
 use mathlib.Core.Path.{_≡_, refl, sym, _∙_, ap}
 use mathlib.Core.List.{List, [], _∷_, _++_, append-assoc, append-nil}
-use Prim.Native.Nat.{ℕ, _+_, _-_, _<_, _≤_}
+use Prim.Native.Nat.{ℕ, _+_, _≤_}
 use native.Mathlib.Nat.{add-zero}
 use native.Mathlib.Numerals.{add-one}
 use native.Mathlib.Omega.{arith}
@@ -54,7 +54,8 @@ module _ {text : List ℕ} {at : ℕ} {v : Word} {r : ℕ} {text′ : List ℕ} 
   room-behind w room = record { fits = omega (arith, length-append v w, a .next, appended-whole, room .fits) }
 
   -- and `w` behind it
-  pub appended-next : {w : Word} {s : ℕ} {text″ : List ℕ} → Appended text′ r w s text″ → Appended text at (v ++ w) s text″
+  pub appended-next : {w : Word} {s : ℕ} {text″ : List ℕ} → Appended text′ r w s text″
+      → Appended text at (v ++ w) s text″
   appended-next {w} {s} {text″} b =
       record {
         next = rw length-append (omega (arith, a .next, b .next));

@@ -1,12 +1,10 @@
 -- How much room lines take. Assumes nothing.
-use mathlib.Core.Path.{_≡_}
-use mathlib.Core.List.{List, [], _∷_, _++_}
+use mathlib.Core.List.{[], _∷_}
 use Prim.Native.Nat.{ℕ, _+_, _*_, _^_, _<_, _≤_}
 use native.Mathlib.Omega.{arith}
 use lib.ListN.{length, length-append}
 use Rattle.words.specs.Words.{Word}
-use Rattle.lines.specs.Text.{decimal, hexOrDash, field, lastField, line, ending}
-use Rattle.lines.specs.Calls.{Room}
+use Rattle.lines.specs.Text.{field, lastField, line, ending}
 use Rattle.lines.proofs.Numerals.{decimal-short, hex-long}
 
 -- a number of 64 bits has at most 20 digits, one of 8 bits at most 3

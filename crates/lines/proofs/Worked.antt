@@ -1,4 +1,4 @@
--- The lines of document 01, by computation: table G with 10, 1, 11, and without a table. Assumes nothing.
+-- The lines of document 01, by computation: table G with 10, 1, 11. Assumes nothing.
 use mathlib.Core.Path.{_≡_, refl}
 use mathlib.Core.List.{[], _∷_}
 use Prim.Native.Nat.{ℕ}

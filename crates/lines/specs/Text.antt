@@ -11,7 +11,7 @@ abbrev pub decimalIn : ℕ → ℕ → Word
 decimalIn zero n = []
 decimalIn (suc most) n = cond (ltb n 10) (glyph n ∷ []) (decimalIn most (n / 10) ++ glyph (n % 10) ∷ [])
 
--- "place from 1, symbol, number given back, depth after"; a number has less digits than ones
+-- "place from 1, symbol, number given back, depth after", in decimal: `n` has at most `n + 1` digits
 unfoldable pub decimal : ℕ → Word
 decimal n = decimalIn (suc n) n
 

@@ -24,7 +24,7 @@ fn refusal(number: u8) -> Said
     Said { number, count: 0 }
 }
 
-fn read(answer: Answer) -> Said
+fn of_answer(answer: Answer) -> Said
     ensures { λ r. ⌜ (r .number ≡ numberOf answer) × (r .count ≡ countOf answer) ⌝ }
 {
     match answer {
@@ -65,7 +65,7 @@ pub fn put_symbol(
         (now (session .exit)) (now (out .exit)) (now (text .exit)) ⌝ }
 {
     let answer = engine::step_in(file, session, symbol, out, work);
-    let said = read(answer);
+    let said = of_answer(answer);
     let number = said.number;
     let count = said.count;
     let depth = places::depth(session);
@@ -76,7 +76,7 @@ pub fn put_symbol(
     }
 }
 
-fn read_end(ending: Ending) -> Said
+fn of_ending(ending: Ending) -> Said
     ensures { λ r. ⌜ (r .number ≡ endingNumber ending) × (r .count ≡ endingCount ending) ⌝ }
 {
     match ending {
@@ -103,7 +103,7 @@ pub fn put_end(
         EndTold (now (file .entry)) (now (session .entry)) (now (out .entry)) (now (text .entry)) at r
         (now (out .exit)) (now (text .exit)) ⌝ }
 {
-    let said = read_end(engine::finish(file, session, out));
+    let said = of_ending(engine::finish(file, session, out));
     let number = said.number;
     let count = said.count;
     put_ending(text, at, number, &out[..count])

@@ -6,7 +6,7 @@ ghost use Rattle.io.specs.Digits.{glyph as Digits·glyph};
 ghost use Rattle.lines.specs.Text.{decimal, hex, hexOrDash, field, lastField, line, ending, noTable};
 ghost use Rattle.lines.specs.Calls.{Room, Appended};
 
-pub fn put_byte(text: &mut [u8], at: usize, byte: u8) -> usize
+fn put_byte(text: &mut [u8], at: usize, byte: u8) -> usize
     requires { ⌜ Room (now text) at (byte ∷ []) ⌝ }
     ensures { λ r. ⌜ Appended (now (text .entry)) at (byte ∷ []) r (now (text .exit)) ⌝ }
 {
@@ -23,7 +23,7 @@ fn put_bytes(text: &mut [u8], at: usize, bytes: &[u8]) -> usize
     at + bytes.len()
 }
 
-pub fn put_decimal(text: &mut [u8], at: usize, n: u64) -> usize
+fn put_decimal(text: &mut [u8], at: usize, n: u64) -> usize
     requires { ⌜ Room (now text) at (decimal n) ⌝ }
     ensures { λ r. ⌜ Appended (now (text .entry)) at (decimal n) r (now (text .exit)) ⌝ }
 {
@@ -64,7 +64,7 @@ fn put_pairs(text: &mut [u8], at: usize, bytes: &[u8]) -> usize
 }
 
 // Bytes in hex, or a dash where there are none.
-pub fn put_hex(text: &mut [u8], at: usize, bytes: &[u8]) -> usize
+fn put_hex(text: &mut [u8], at: usize, bytes: &[u8]) -> usize
     requires { ⌜ Room (now text) at (hexOrDash (now bytes)) ⌝ }
     ensures { λ r. ⌜ Appended (now (text .entry)) at (hexOrDash (now (bytes .entry))) r (now (text .exit)) ⌝ }
 {

@@ -11,15 +11,15 @@ use Rattle.lines.proofs.telling.put_end.Tie as tie
 finish-requires : tie.Need-finish-requires
 finish-requires c κs = search needs
 
-read-end-requires : tie.Need-read-end-requires
-read-end-requires c κs = search needs
+of-ending-requires : tie.Need-of-ending-requires
+of-ending-requires c κs = search needs
 
 slice-reshare-prefix-put-ending : tie.Need-slice-reshare-prefix-put-ending
 slice-reshare-prefix-put-ending c =
     let heard = c .before in
     let ended = heard .before .before .before in
     rest-within _ _
-    (said-finished (ended .finish .result) _ _ (heard .read-end .ensures .0) (heard .read-end .ensures .1)
+    (said-finished (ended .finish .result) _ _ (heard .of-ending .ensures .0) (heard .of-ending .ensures .1)
     (ended .finish .ensures))
 
 slice-aggregate-put-ending : tie.Need-slice-aggregate-put-ending
@@ -30,7 +30,7 @@ put-ending-requires c κs =
     let heard = c .before .before in
     let ended = heard .before .before .before in
     let start = ended .before .before .before .before .before in
-    let rest = take (heard .read-end .result .count) (ended .finish .last .1 .1 .0) in
+    let rest = take (heard .of-ending .result .count) (ended .finish .last .1 .1 .0) in
     let long = slice-aggregate-put-ending c in
     ending-room _ rest (length (start .args .out .now)) (omega arith)
     (omega (arith, long, slice-reshare-prefix-put-ending (c .before))) _ _ (omega arith)
@@ -47,10 +47,10 @@ returns c =
     let heard = put .before .before .before in
     let ended = heard .before .before .before in
     record {
-      number = heard .read-end .result .number;
-      count = heard .read-end .result .count;
+      number = heard .of-ending .result .number;
+      count = heard .of-ending .result .count;
       finished =
-          said-finished (ended .finish .result) _ _ (heard .read-end .ensures .0) (heard .read-end .ensures .1)
+          said-finished (ended .finish .result) _ _ (heard .of-ending .ensures .0) (heard .of-ending .ensures .1)
           (ended .finish .ensures);
       put = put .put-ending .ensures;
     }
@@ -60,7 +60,7 @@ put-end-spec =
     tie.close
     (tie.spec
     finish-requires
-    read-end-requires
+    of-ending-requires
     slice-reshare-prefix-put-ending
     slice-aggregate-put-ending
     put-ending-requires

@@ -13,8 +13,8 @@ use Rattle.lines.proofs.telling.put_symbol.Tie as tie
 step-in-requires : tie.Need-step-in-requires
 step-in-requires c κs = search needs
 
-read-requires : tie.Need-read-requires
-read-requires c κs = search needs
+of-answer-requires : tie.Need-of-answer-requires
+of-answer-requires c κs = search needs
 
 depth-requires : tie.Need-depth-requires
 depth-requires c κs = search needs
@@ -24,7 +24,7 @@ slice-reshare-prefix-put-line c =
     let heard = c .before .before .before in
     let stepped = heard .before .before .before in
     sent-within _ _
-    (said-stepped (stepped .step-in .result) _ _ (heard .read .ensures .0) (heard .read .ensures .1)
+    (said-stepped (stepped .step-in .result) _ _ (heard .of-answer .ensures .0) (heard .of-answer .ensures .1)
     (stepped .step-in .ensures))
 
 slice-aggregate-put-line : tie.Need-slice-aggregate-put-line
@@ -35,7 +35,7 @@ put-line-requires c κs =
     let heard = c .before .before .before .before in
     let stepped = heard .before .before .before in
     let start = stepped .before .before .before .before .before .before .before in
-    let sent = take (heard .read .result .count) (stepped .step-in .last .1 .1 .1 .0) in
+    let sent = take (heard .of-answer .result .count) (stepped .step-in .last .1 .1 .1 .0) in
     let long = slice-aggregate-put-line c in
     line-room _ _ _ _ sent (length (start .args .out .now)) (omega arith) (omega arith) (omega arith) (omega arith)
     (omega (arith, long, slice-reshare-prefix-put-line (c .before))) _ _ (omega arith)
@@ -53,19 +53,19 @@ returns c =
     let stepped = heard .before .before .before in
     let start = stepped .before .before .before .before .before .before .before in
     let args = start .args in
-    let sent = take (heard .read .result .count) (stepped .step-in .last .1 .1 .1 .0) in
+    let sent = take (heard .of-answer .result .count) (stepped .step-in .last .1 .1 .1 .0) in
     let long = slice-aggregate-put-line (put .before) in
     let few : length sent ≤ length (args .out .now)
     = omega (arith, long, slice-reshare-prefix-put-line (put .before .before)) in
     let most =
-    line-most (args .place) (args .symbol) (heard .read .result .number) (put .before .before .before .depth .result)
+    line-most (args .place) (args .symbol) (heard .of-answer .result .number) (put .before .before .before .depth .result)
     sent (length (args .out .now)) (omega arith) (omega arith) (omega arith) (omega arith) few
     in
     record {
-      number = heard .read .result .number;
-      count = heard .read .result .count;
+      number = heard .of-answer .result .number;
+      count = heard .of-answer .result .count;
       stepped =
-          said-stepped (stepped .step-in .result) _ _ (heard .read .ensures .0) (heard .read .ensures .1)
+          said-stepped (stepped .step-in .result) _ _ (heard .of-answer .ensures .0) (heard .of-answer .ensures .1)
           (stepped .step-in .ensures);
       taken = (λ e. eq-eqb _ _ e, λ e. eqb-true _ _ e);
       short = omega (arith, put .put-line .ensures .next, most);
@@ -77,7 +77,7 @@ put-symbol-spec =
     tie.close
     (tie.spec
     step-in-requires
-    read-requires
+    of-answer-requires
     depth-requires
     slice-reshare-prefix-put-line
     slice-aggregate-put-line

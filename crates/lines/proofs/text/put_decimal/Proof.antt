@@ -9,7 +9,8 @@ use Rattle.lines.proofs.text.put_decimal.Statement.{statement}
 use Rattle.lines.proofs.text.put_decimal.Tie as tie
 
 -- what is handed on
-handed : (c : tie.After-decimal) → take (c .decimal .result) (c .decimal .last .1 .0) ≡ decimal (c .before .before .before .args .n)
+handed : (c : tie.After-decimal)
+    → take (c .decimal .result) (c .decimal .last .1 .0) ≡ decimal (c .before .before .before .args .n)
 handed c = c .decimal .ensures .1 .1 ∙ decimal-spelled _ _ (c .decimal .ensures .1 .0)
 
 decimal-requires : tie.Need-decimal-requires

@@ -16,7 +16,8 @@ put-field-requires : tie.Need-put-field-requires
 put-field-requires c κs =
     let first = c .before .before .before in
     let start = first .before .before .before .before .before in
-    room-behind (first .put-bytes .ensures) _ (room-front ((101 ∷ 110 ∷ 100 ∷ 32 ∷ []) ++ field (start .args .number)) _ (start .pre))
+    room-behind (first .put-bytes .ensures) _
+    (room-front ((101 ∷ 110 ∷ 100 ∷ 32 ∷ []) ++ field (start .args .number)) _ (start .pre))
 
 put-last-requires : tie.Need-put-last-requires
 put-last-requires c κs =

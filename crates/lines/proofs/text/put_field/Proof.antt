@@ -1,21 +1,20 @@
 -- `lines::text::put_field` meets its contract. Assumes nothing.
 use mathlib.Core.List.{[], _∷_}
-use native.Mathlib.Omega.{arith}
-use lib.ListN.{length, length-append}
 use Rattle.lines.specs.Text.{decimal}
-use Rattle.lines.proofs.Puts.{room-behind, appended-next}
+use Rattle.lines.proofs.Puts.{room-front, room-behind, appended-next}
 use borrow.Author.Needs.{needs}
 use Rattle.lines.proofs.text.put_field.Statement.{statement}
 use Rattle.lines.proofs.text.put_field.Tie as tie
 
 put-decimal-requires : tie.Need-put-decimal-requires
 put-decimal-requires c κs =
-    omega (arith, length-append (decimal (c .before .before .args .n)) (32 ∷ []))
+    let start = c .before .before in
+    room-front (decimal (start .args .n)) (32 ∷ []) (start .pre)
 
 put-byte-requires : tie.Need-put-byte-requires
 put-byte-requires c κs =
     let put = c .before .before .before in
-    omega (arith, room-behind (put .put-decimal .ensures) (32 ∷ []) (put .before .before .before .pre))
+    room-behind (put .put-decimal .ensures) (32 ∷ []) (put .before .before .before .pre)
 
 same-length : tie.Need-same-length
 same-length c = search needs

@@ -1,5 +1,5 @@
 -- `lines::text::put_hex` meets its contract. Assumes nothing.
-use mathlib.Core.Path.{_≡_, ap}
+use mathlib.Core.Path.{ap}
 use native.Mathlib.Omega.{arith}
 use lib.ListN.{length}
 use Rattle.lines.proofs.Numerals.{hex-or-dash, no-bytes}

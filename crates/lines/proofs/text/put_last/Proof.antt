@@ -1,21 +1,20 @@
 -- `lines::text::put_last` meets its contract. Assumes nothing.
 use mathlib.Core.List.{[], _∷_}
-use native.Mathlib.Omega.{arith}
-use lib.ListN.{length, length-append}
 use Rattle.lines.specs.Text.{hexOrDash}
-use Rattle.lines.proofs.Puts.{room-behind, appended-next}
+use Rattle.lines.proofs.Puts.{room-front, room-behind, appended-next}
 use borrow.Author.Needs.{needs}
 use Rattle.lines.proofs.text.put_last.Statement.{statement}
 use Rattle.lines.proofs.text.put_last.Tie as tie
 
 put-hex-requires : tie.Need-put-hex-requires
 put-hex-requires c κs =
-    omega (arith, length-append (hexOrDash (c .before .before .before .args .bytes .now)) (10 ∷ []))
+    let start = c .before .before .before in
+    room-front (hexOrDash (start .args .bytes .now)) (10 ∷ []) (start .pre)
 
 put-byte-requires : tie.Need-put-byte-requires
 put-byte-requires c κs =
     let put = c .before .before .before in
-    omega (arith, room-behind (put .put-hex .ensures) (10 ∷ []) (put .before .before .before .before .pre))
+    room-behind (put .put-hex .ensures) (10 ∷ []) (put .before .before .before .before .pre)
 
 same-length : tie.Need-same-length
 same-length c = search needs

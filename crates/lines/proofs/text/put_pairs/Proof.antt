@@ -43,7 +43,8 @@ loop-again c =
     let put = c .before .before in
     let at-loop = put .before .before .before .before in
     let bytes = at-loop .before .before .before .args .bytes .now in
-    (omega arith, rw (hex-next bytes (at-loop .loop .i) (omega arith)) (appended-next (at-loop .loop .inv .1) (put .put-pair .ensures)))
+    let more = appended-next (at-loop .loop .inv .1) (put .put-pair .ensures) in
+    (omega arith, rw (hex-next bytes (at-loop .loop .i) (omega arith)) more)
 
 same-length : tie.Need-same-length Inv-loop μ-loop
 same-length c = appended-whole (c .before .loop .inv .1)
