@@ -20,8 +20,8 @@ pub record Appended (text : List ℕ) (at : ℕ) (w : Word) (r : ℕ) (text′ :
   pub within : r ≤ length text
   pub is : text′ ≡ take at text ++ w ++ drop r text
 
--- a symbol was tried, and its line put: "place from 1, symbol, number given back, depth after, bytes sent"; the line has
--- at most 52 bytes, and two for each byte of the output
+-- a symbol was tried, and its line put: "place from 1, symbol, number given back, depth after, bytes sent"; the line
+-- has at most 52 bytes, and two for each byte of the output
 pub record Told (file session : List ℕ) (symbol : ℕ) (out : List ℕ) (place : ℕ) (text : List ℕ) (at : ℕ) (r : Tried)
     (session′ out′ text′ : List ℕ) : Type 0 where
   pub number : ℕ

@@ -1,5 +1,5 @@
-// The lines of the program, put into a lent text from a place on: what `step` or `finish` answers, and its line. Nothing
-// else of the text is changed.
+// The lines of the program, put into a lent text from a place on: a symbol given to `step` and its line, `finish` and
+// its line. Nothing else of the text is changed.
 mod telling;
 mod text;
 

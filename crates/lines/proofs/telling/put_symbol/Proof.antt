@@ -55,11 +55,12 @@ returns c =
     let args = start .args in
     let sent = take (heard .of-answer .result .count) (stepped .step-in .last .1 .1 .1 .0) in
     let long = slice-aggregate-put-line (put .before) in
+    let depth = put .before .before .before .depth .result in
     let few : length sent ≤ length (args .out .now)
     = omega (arith, long, slice-reshare-prefix-put-line (put .before .before)) in
     let most =
-    line-most (args .place) (args .symbol) (heard .of-answer .result .number) (put .before .before .before .depth .result)
-    sent (length (args .out .now)) (omega arith) (omega arith) (omega arith) (omega arith) few
+    line-most (args .place) (args .symbol) (heard .of-answer .result .number) depth sent (length (args .out .now))
+    (omega arith) (omega arith) (omega arith) (omega arith) few
     in
     record {
       number = heard .of-answer .result .number;
