@@ -1,0 +1,2 @@
+-- Answers told by their numbers; and that one answer meets each promise.
+pub mod Said

@@ -1,0 +1,26 @@
+-- `face::jermanuts_step_in` meets its contract. Assumes nothing.
+use Rattle.face.proofs.Said.{said-stepped}
+use borrow.Author.Needs.{needs}
+use Rattle.face.proofs.jermanuts_step_in.Statement.{statement}
+use Rattle.face.proofs.jermanuts_step_in.Tie as tie
+
+step-in-requires : tie.Need-step-in-requires
+step-in-requires c κs = search needs
+
+count-of-requires : tie.Need-count-of-requires
+count-of-requires c κs = search needs
+
+number-of-requires : tie.Need-number-of-requires
+number-of-requires c κs = search needs
+
+same-length : tie.Need-same-length
+same-length c = search needs
+
+returns : tie.Need-returns
+returns c =
+    let stepped = c .before .before .before .before in
+    said-stepped (stepped .step-in .result) (c .number-of .ensures) (c .before .count-of .ensures)
+    (stepped .step-in .ensures)
+
+pub jermanuts-step-in-spec : {M : Type 1} → statement M
+jermanuts-step-in-spec = tie.close (tie.spec step-in-requires count-of-requires number-of-requires same-length returns)
