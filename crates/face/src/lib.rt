@@ -1,5 +1,5 @@
-// The calls for programs in C and Rust: each answers the scope's number, and what else a call gives is written where the
-// caller says. include/jermanuts.h has them with their buffers.
+// The calls for programs in C and Rust: each answers the scope's number, and what else a call gives is written where
+// the caller says.
 use engine::Answer;
 use engine::Ending;
 use engine::WORK;
