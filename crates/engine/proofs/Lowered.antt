@@ -11,14 +11,13 @@ use lib.Seq.{drop-cons}
 use borrow.Author.Tests.{ltb-true, ne-eqb}
 use Rattle.words.specs.Lists.{Exact, only, anyOf}
 use Rattle.words.specs.Words.{Word, Bytes}
-use Rattle.words.proofs.Lists.{any-in, any-out}
+use Rattle.words.proofs.Lists.{any-in, any-out, getD-map-upTo}
 use Rattle.words.proofs.Exact.{exact-same, and-exact, ltb-exact, yes-exact, no-exact}
 use Rattle.meaning.specs.Answers.{linksCap}
 use Rattle.session.specs.Sessions.{Entry}
 use Rattle.session.specs.Bytes.{linkStart, countOf, linkFrom, linkAt, pieceAt, entryAt, sessionOf, Kept, noEntry}
 use Rattle.session.specs.Numbers.{seatFrom, footFrom, keyAt}
 use Rattle.session.proofs.Bytes.{counted, long}
-use Rattle.session.proofs.Encoded.{getD-map-upTo}
 use Rattle.stepping.specs.Stepping.{seat, hasFoot, lower, shake}
 use Rattle.engine.specs.Drafts.{slotStart, draftRoom, draftIn, slotOf, draftsOf, Drafts, Filled, Footed, Stays}
 use Rattle.engine.specs.Drafts.{AllAt, OneMore, shakenOver}

@@ -148,16 +148,16 @@ one depth waiting k m rs =
       rows = rs;
     }
 
-abbrev firstHop : List Row → Table
+abbrev pub firstHop : List Row → Table
 firstHop rs = one 4 4 (λ a. cond (eqb a 40 || eqb a 60) call (cond (eqb a 41 || eqb a 62) return unused)) 1 rs
 
-abbrev secondHop : Table
+abbrev pub secondHop : Table
 secondHop =
     one 5 3 (λ a. cond (eqb a 91 || eqb a 123) call (cond (eqb a 93 || eqb a 125) return unused)) 2
     (row 91 0 0 1 (97 ∷ []) ∷ row 93 0 0 1 (100 ∷ []) ∷ row 123 0 0 2 (98 ∷ []) ∷ row 125 0 0 2 (99 ∷ []) ∷ [])
 
 -- `(` writes `[{`, `)` writes the given word
-abbrev round : Word → List Row
+abbrev pub round : Word → List Row
 round w = row 40 0 0 1 (91 ∷ 123 ∷ []) ∷ row 41 0 0 1 w ∷ []
 
 -- and `<` writes `{[`, `>` writes `]}`

@@ -9,6 +9,7 @@ use native.Mathlib.Omega.{arith}
 use lib.ListN.{length, length-map}
 use Rattle.words.specs.Lists.{_among_}
 use Rattle.words.specs.Words.{Word, Bytes}
+use Rattle.words.proofs.Lists.{bytes-nil, bytes-cons}
 use Rattle.meaning.specs.Table.{Table}
 use Rattle.meaning.specs.Trails.{Trail}
 use Rattle.meaning.specs.Living.{place, living}
@@ -24,7 +25,7 @@ use Rattle.session.specs.Calls.{numberOf, statesOf, Begun}
 use Rattle.session.specs.declared.fresh.Opening.{Opening}
 use Rattle.session.specs.declared.fresh.Opening.the-variants.{Taken, BadTable}
 use Rattle.session.proofs.Beginning.{beginning-sound, beginning-stands}
-use Rattle.session.proofs.Encoded.{Fits, small-nil, small-cons, small-zeros, session-back, kept-of}
+use Rattle.session.proofs.Encoded.{Fits, small-zeros, session-back, kept-of}
 use Rattle.session.proofs.RoundTrip.{bytes-one}
 
 -- links at level 0 fit, where their states are bytes
@@ -35,10 +36,10 @@ started-fits l room small =
       count = rw (length-map l starts) room;
       bytes =
           all (λ e. Bytes (linkBytes (e .link)))
-          (λ q m. small-cons (omega arith) (small-cons (small q m) (small-zeros 3)));
+          (λ q m. bytes-cons (omega arith) (bytes-cons (small q m) (small-zeros 3)));
       below = all (λ e. (e .link .level ≡ 0) ↔ (e .link .below ≡ none)) (λ q m. (λ z. refl, λ z. refl));
       short = all (λ e. length (e .piece) ≤ pieceRoom) (λ q m. omega arith);
-      piece = all (λ e. Bytes (e .piece)) (λ q m. small-nil);
+      piece = all (λ e. Bytes (e .piece)) (λ q m. bytes-nil);
     }
   where
     all : (P : Entry → Type 0) → ((q : ℕ) → q among l → P (starts q)) → (e : Entry) → e among map starts l → P e

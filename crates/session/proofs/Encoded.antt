@@ -3,18 +3,18 @@ use mathlib.Core.Path.{_≡_, refl, sym, _∙_, ap}
 use mathlib.Core.Logic.{_⊎_, inl, inr, _↔_}
 use mathlib.Core.Bool.{cond}
 use mathlib.Core.Option.{Option, some, none}
-use mathlib.Core.List.{List, [], _∷_, _++_, map, map-append, Memᴰ·of-map, List·Memᴰ·cases-cons}
+use mathlib.Core.List.{List, [], _∷_, map, Memᴰ·of-map}
 use Prim.Native.Nat.{ℕ, zero, suc, _+_, _*_, _-_, _/_, _%_, _<_, _≤_}
 use native.Mathlib.Omega.{arith}
 use native.Mathlib.Nat.{mul-comm}
 use lib.Arith.{digits-div, digits-mod}
 use lib.Dec.{eqb}
 use borrow.Author.Tests.{lt-ltb, le-ltb, eq-eqb, ne-eqb}
-use lib.ListN.{length, replicate, getD, drop, length-map, length-drop, List·getD-append, List·getD-eq-default}
-use lib.Seq.{ext-getD, getD-take, getD-drop, length-take-le, getD-at}
+use lib.ListN.{length, replicate, getD, drop, length-map, length-drop, List·getD-eq-default}
+use lib.Seq.{ext-getD, getD-take, getD-drop, length-take-le}
 use Rattle.words.specs.Lists.{_among_, upTo}
 use Rattle.words.specs.Words.{Word, Bytes}
-use Rattle.words.proofs.Lists.{length-upTo, below-or, getD-among, getD-byte}
+use Rattle.words.proofs.Lists.{length-upTo, below-or, getD-among, getD-byte, bytes-nil, bytes-cons, getD-map-upTo}
 use Rattle.meaning.specs.Trails.{Pair}
 use Rattle.meaning.specs.Answers.{linksCap}
 use Rattle.table.specs.File.{byte}
@@ -23,19 +23,6 @@ use Rattle.session.specs.Bytes.{linkStart, lengthStart, pieceStart, piec
 use Rattle.session.specs.Bytes.{pieceAt, entryAt, sessionOf, Kept, noEntry, entryOf, belowAt, belowBytes}
 use Rattle.session.specs.Bytes.{linkBytes, lengthBytes, cell, byteOf, bytesOf}
 use Rattle.session.proofs.Bytes.{none-some}
-
-pub getD-map-upTo : {A : Type 0} (f : ℕ → A) (n k : ℕ) (d : A) → k < n → getD (map f (upTo n)) k d ≡ f k
-getD-map-upTo f zero k d lt = absurd (omega arith)
-getD-map-upTo f (suc n) k d lt = rw (map-append f (upTo n) (n ∷ [])) (go (below-or k n) (λ h. getD-map-upTo f n k d h))
-  where
-    long : length (map f (upTo n)) ≡ n
-    long = length-map (upTo n) f ∙ length-upTo n
-
-    go : (k < n) ⊎ (n ≤ k) → (k < n → getD (map f (upTo n)) k d ≡ f k) → getD (map f (upTo n) ++ f n ∷ []) k d ≡ f k
-    go (inl h) ih = List·getD-append (map f (upTo n)) (f n ∷ []) d k (omega (arith, long)) ∙ ih h
-    go (inr h) ih =
-        let e : n ≡ k = omega arith in
-        rw (← e) (getD-at (map f (upTo n)) (f n) [] d n long)
 
 cell-at : (s w : ℕ) (things : ℕ → List ℕ) (i j : ℕ) → j < w → cell s w things (s + w * i + j) ≡ getD (things i) j 0
 cell-at s w things i j lt =
@@ -63,19 +50,9 @@ pub record Fits (S : Session) : Type 0 where
   pub short : (e : Entry) → e among S .entries → length (e .piece) ≤ pieceRoom
   pub piece : (e : Entry) → e among S .entries → Bytes (e .piece)
 
-pub small-nil : Bytes []
-small-nil n m = elim m [ ]
-
-pub small-cons : {x : ℕ} {l : List ℕ} → x < 256 → Bytes l → Bytes (x ∷ l)
-small-cons {x} {l} lt h n m = go (List·Memᴰ·cases-cons m)
-  where
-    go : (n ≡ x) ⊎ (n among l) → n < 256
-    go (inl e) = rw e lt
-    go (inr k) = h n k
-
 pub small-zeros : (n : ℕ) → Bytes (replicate n 0)
-small-zeros zero = small-nil
-small-zeros (suc n) = small-cons (omega arith) (small-zeros n)
+small-zeros zero = bytes-nil
+small-zeros (suc n) = bytes-cons (omega arith) (small-zeros n)
 
 cell-small : (s w : ℕ) (things : ℕ → List ℕ) (k : ℕ) → ((i : ℕ) → Bytes (things i)) → cell s w things k < 256
 cell-small s w things k h = getD-byte (things ((k - s) / w)) (h ((k - s) / w)) ((k - s) % w)
@@ -211,7 +188,7 @@ module _ (S : Session) (ok : Fits S) where
       links-small = entry-all (λ e. Bytes (linkBytes (e .link))) (ok .bytes) (small-zeros 5)
 
       two-small : (x : Word) → length x ≤ pieceRoom → Bytes (lengthBytes x)
-      two-small x le = small-cons (omega arith) (small-cons (omega arith) small-nil)
+      two-small x le = bytes-cons (omega arith) (bytes-cons (omega arith) bytes-nil)
 
       lengths-small : (i : ℕ) → Bytes (lengthBytes (entryOf S i .piece))
       lengths-small =
@@ -222,7 +199,7 @@ module _ (S : Session) (ok : Fits S) where
       go (inl a) b c =
           let n : length (S .entries) < 256 = omega (arith, ok .count) in
           rw (lt-ltb k 2 a)
-          (getD-byte (S .depth ∷ length (S .entries) ∷ []) (small-cons (ok .depth) (small-cons n small-nil)) k)
+          (getD-byte (S .depth ∷ length (S .entries) ∷ []) (bytes-cons (ok .depth) (bytes-cons n bytes-nil)) k)
       go (inr a) (inl b) c =
           rw (le-ltb k 2 a, lt-ltb k 322 b) (cell-small 2 5 (λ i. linkBytes (entryOf S i .link)) k links-small)
       go (inr a) (inr b) (inl c) =
@@ -231,7 +208,7 @@ module _ (S : Session) (ok : Fits S) where
       go (inr a) (inr b) (inr c) =
           rw (le-ltb k 2 a, le-ltb k 322 b, le-ltb k 450 c)
           (cell-small 450 512 (λ i. entryOf S i .piece) k
-          (entry-all (λ e. Bytes (e .piece)) (ok .piece) small-nil))
+          (entry-all (λ e. Bytes (e .piece)) (ok .piece) bytes-nil))
 
   nothing : (i : ℕ) → length (S .entries) ≤ i → entryOf S i ≡ noEntry
   nothing i le = List·getD-eq-default (S .entries) noEntry le

@@ -8,6 +8,7 @@ use native.Mathlib.Omega.{arith}
 use lib.ListN.{length, length-append}
 use Rattle.words.specs.Lists.{_among_}
 use Rattle.words.specs.Words.{Bytes}
+use Rattle.words.proofs.Lists.{bytes-nil, bytes-cons}
 use Rattle.meaning.specs.Table.{Table, Good, edition1}
 use Rattle.meaning.specs.Trails.{ground, Pair, Link, on, linkOf}
 use Rattle.session.specs.Sessions.{Entry, Session, Ranges, Sound, trails}
@@ -18,7 +19,7 @@ use Rattle.session.proofs.Spells.{links-under, spells-under, piece-with
 use Rattle.session.proofs.Tests.{as-has}
 use Rattle.session.proofs.Listed.{trails-same}
 use Rattle.meaning.specs.Living.{Place}
-use Rattle.session.proofs.Encoded.{Fits, small-nil, small-cons, small-zeros, session-back, kept-of}
+use Rattle.session.proofs.Encoded.{Fits, small-zeros, session-back, kept-of}
 
 -- a session that is sound for a good table fits
 module _ (T : Table) (good : Good edition1 T) (S : Session) (ok : Sound T S) where
@@ -60,7 +61,7 @@ module _ (T : Table) (good : Good edition1 T) (S : Session) (ok : Sound T S) whe
   link-small e m =
       let h = here-small e m in
       let level : e .link .level < 256 = omega (arith, root e m .0, ok .depth, good .depthCap .1) in
-      small-cons level (small-cons (h .0) (small-cons (h .1) (go (root e m .1))))
+      bytes-cons level (bytes-cons (h .0) (bytes-cons (h .1) (go (root e m .1))))
     where
       go : (e .link ≡ linkOf (ground (e .link .here .state)))
           ⊎ ((f : Entry) × (f among S .entries)
@@ -71,7 +72,7 @@ module _ (T : Table) (good : Good edition1 T) (S : Session) (ok : Sound T S) whe
       go (inr f) =
           let k = here-small (f .0) (f .1) in
           subst (λ (o : Option Pair). Bytes (belowBytes o)) (sym (ap (λ (l : Link). l .below) (f .2)))
-          (small-cons (k .0) (small-cons (k .1) small-nil))
+          (bytes-cons (k .0) (bytes-cons (k .1) bytes-nil))
 
   sound-fits : Fits S
   sound-fits =

@@ -10,7 +10,7 @@ use lib.ListN.{length, getD, set, drop, length-take, drop-of-length-le}
 use lib.Seq.{drop-cons, getD-set-same, getD-set-other}
 use borrow.Author.Tests.{eq-eqb, ne-eqb}
 use Rattle.words.specs.Words.{Word, Bytes}
-use Rattle.words.proofs.Lists.{below-or}
+use Rattle.words.proofs.Lists.{below-or, getD-map-upTo}
 use Rattle.meaning.specs.Table.{Table}
 use Rattle.meaning.specs.Trails.{Link}
 use Rattle.session.specs.Sessions.{Entry, onBottom, standsOn}
@@ -19,7 +19,6 @@ use Rattle.session.specs.Bytes.{pieceStart, pieceRoom, countOf, lengthAt
 use Rattle.session.specs.Bytes.{noEntry}
 use Rattle.session.specs.Numbers.{seatAt, footAt, Links, loadsFrom, loadAt, Weighed, Picks, Heaviest}
 use Rattle.session.proofs.Bytes.{counted}
-use Rattle.session.proofs.Encoded.{getD-map-upTo}
 use Rattle.session.proofs.Feet.{stands-foot, bottom-foot}
 
 module _ (bytes : List ℕ) where

@@ -12,6 +12,7 @@ use lib.ListN.{length, length-append}
 use borrow.Author.Tests.{eqb-false}
 use Rattle.words.specs.Lists.{_among_}
 use Rattle.words.specs.Words.{Word, Bytes}
+use Rattle.words.proofs.Lists.{bytes-nil, bytes-append}
 use Rattle.meaning.specs.Table.{Class, unused, call, return, internal, is, Row, Table, edition1, MarkFits, GoodRow}
 use Rattle.meaning.specs.Table.{Good}
 use Rattle.meaning.specs.Trails.{Trail, ground, over, height, Pair, Link, on, linkOf}
@@ -21,7 +22,6 @@ use Rattle.session.proofs.Tests.{as-has}
 use Rattle.session.proofs.Spells.{above-spells, level-linkOf, has-top, piece-within, lies-spelled, goes-on, stood}
 use Rattle.session.proofs.Soundly.{lies-rooted}
 use Rattle.session.proofs.Bytes.{none-some}
-use Rattle.session.proofs.Encoded.{small-nil}
 use Rattle.session.proofs.RoundTrip.{piece-short}
 use Rattle.stepping.specs.Stepping.{movedTo, follow, grow, conflict, keep, lower, kept, shaken, push}
 use Rattle.stepping.proofs.Feet.{seat-exact}
@@ -50,13 +50,6 @@ deeper-within call d n le e = go (eq-or-lt-of-le le)
     go (inr h) = omega arith
 deeper-within return d n le e = omega arith
 deeper-within internal d n le e = le
-
-append-bytes : (x y : Word) → Bytes x → Bytes y → Bytes (x ++ y)
-append-bytes x y f g b m = go (List·Memᴰ·append-cases x m)
-  where
-    go : (b among x) ⊎ (b among y) → b < 256
-    go (inl i) = f b i
-    go (inr i) = g b i
 
 module _ (T : Table) (S : Session) (a : ℕ) where
   -- what is kept, and what is left of it, was there or follows
@@ -165,7 +158,7 @@ module _ (T : Table) (good : Good edition1 T) (S : Session) (ok : Sound T S) whe
         before = [];
         piece = ap (λ (z : Entry). z .piece) i;
         short = omega arith;
-        bytes = small-nil;
+        bytes = bytes-nil;
       }
   came return r f to e z m h =
       let p = popped (S .entries) r e z h in
@@ -183,7 +176,7 @@ module _ (T : Table) (good : Good edition1 T) (S : Session) (ok : Sound T S) whe
               pieces-short (u .link) (u .piece) (e .piece) _ _ (p .listed) above,
             );
         bytes =
-            append-bytes (u .piece) (e .piece) (ok .bytes (u .link) (u .piece) (p .listed))
+            bytes-append (u .piece) (e .piece) (ok .bytes (u .link) (u .piece) (p .listed))
             (ok .bytes (e .link) (e .piece) m);
       }
   came internal r f to e z m h =
@@ -212,7 +205,7 @@ module _ (T : Table) (good : Good edition1 T) (S : Session) (ok : Sound T S) whe
     pub grow-bytes : (z : Entry) → z among grow T S a → Bytes (z .piece)
     grow-bytes z m =
         let c = grow-came z m in
-        subst Bytes (sym (c .2 .piece)) (append-bytes (c .2 .before) (c .0 .word) (c .2 .bytes) (c .1 .bytes))
+        subst Bytes (sym (c .2 .piece)) (bytes-append (c .2 .before) (c .0 .word) (c .2 .bytes) (c .1 .bytes))
 
     pub grow-short : (z : Entry) → z among grow T S a → length (z .piece) ≤ 767
     grow-short z m =

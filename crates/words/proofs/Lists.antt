@@ -5,7 +5,8 @@ use mathlib.Core.Bool.{Bool, true, false, _&&_, _||_, not, false≢true}
 use mathlib.Core.List.{List, [], _∷_, _++_, map, map-append, append-assoc, List·Memᴰ·head, List·Memᴰ·tail, Memᴰ·cast}
 use mathlib.Core.List.{Memᴰ·of-map, Memᴰ·append-left, Memᴰ·append-right, List·Memᴰ·append-cases}
 use mathlib.Core.List.{List·Memᴰ·eq-of-singleton, List·Memᴰ·cases-cons}
-use lib.ListN.{length, length-append, getD, List·getD-eq-default}
+use lib.ListN.{length, length-append, length-map, getD, List·getD-append, List·getD-eq-default}
+use lib.Seq.{getD-at}
 use Prim.Native.Nat.{ℕ, zero, suc, _<_, _≤_, _-_}
 use native.Mathlib.Nat.{eq-zero-or-pos}
 use native.Mathlib.Omega.{arith}
@@ -304,3 +305,31 @@ getD-byte l h i = go (below-or i (length l))
 pub byte-getD : (l : Word) → ((i : ℕ) → getD l i 0 < 256) → Bytes l
 byte-getD (x ∷ l) h b (List·Memᴰ·head e) = rw e (h 0)
 byte-getD (x ∷ l) h b (List·Memᴰ·tail m) = byte-getD l (λ i. h (suc i)) b m
+
+pub bytes-nil : Bytes []
+bytes-nil b m = elim m [ ]
+
+pub bytes-cons : {x : ℕ} {l : Word} → x < 256 → Bytes l → Bytes (x ∷ l)
+bytes-cons lt h b (List·Memᴰ·head e) = rw e lt
+bytes-cons lt h b (List·Memᴰ·tail m) = h b m
+
+pub bytes-append : (l k : Word) → Bytes l → Bytes k → Bytes (l ++ k)
+bytes-append l k f g b m = go (List·Memᴰ·append-cases l m)
+  where
+    go : (b among l) ⊎ (b among k) → b < 256
+    go (inl i) = f b i
+    go (inr i) = g b i
+
+-- a list made of the numbers below `n`, by its places
+pub getD-map-upTo : {A : Type 0} (f : ℕ → A) (n k : ℕ) (d : A) → k < n → getD (map f (upTo n)) k d ≡ f k
+getD-map-upTo f zero k d lt = absurd (omega arith)
+getD-map-upTo f (suc n) k d lt = rw (map-append f (upTo n) (n ∷ [])) (go (below-or k n) (λ h. getD-map-upTo f n k d h))
+  where
+    long : length (map f (upTo n)) ≡ n
+    long = length-map (upTo n) f ∙ length-upTo n
+
+    go : (k < n) ⊎ (n ≤ k) → (k < n → getD (map f (upTo n)) k d ≡ f k) → getD (map f (upTo n) ++ f n ∷ []) k d ≡ f k
+    go (inl h) ih = List·getD-append (map f (upTo n)) (f n ∷ []) d k (omega (arith, long)) ∙ ih h
+    go (inr h) ih =
+        let e : n ≡ k = omega arith in
+        rw (← e) (getD-at (map f (upTo n)) (f n) [] d n long)

@@ -1,4 +1,4 @@
--- `cases::checks::beginnings` meets its contract. Invariant: at most one of each length passed is counted. Assumes nothing.
+-- `cases::checks::beginnings` meets its contract: at most one of each length passed is counted. Assumes nothing.
 use mathlib.Core.Path.{sym}
 use Prim.Native.Nat.{_+_, _-_, _≤_}
 use lib.ListN.{length}

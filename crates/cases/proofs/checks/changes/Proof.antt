@@ -1,4 +1,4 @@
--- `cases::checks::changes` meets its contract. Invariant: at most 256 are counted for each place passed. Assumes nothing.
+-- `cases::checks::changes` meets its contract: at most 256 are counted for each place passed. Assumes nothing.
 use Prim.Native.Nat.{_-_, _*_, _≤_}
 use borrow.Author.Needs.{needs}
 use Rattle.cases.proofs.checks.changes.Statement.{statement}

@@ -1,4 +1,4 @@
--- `cases::sessions::sevens` meets its contract. Invariant: at most one is counted for each byte passed. Assumes nothing.
+-- `cases::sessions::sevens` meets its contract: at most one is counted for each byte passed. Assumes nothing.
 use mathlib.Core.Logic.{⊎-elim}
 use Prim.Native.Nat.{_-_, _≤_}
 use native.Mathlib.Omega.{arith}

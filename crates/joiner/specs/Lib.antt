@@ -1,0 +1,2 @@
+-- What the functions of the joiner ask and answer, beyond the definitions of `meaning` and `table`.
+pub mod Nesting

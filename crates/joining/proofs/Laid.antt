@@ -1,0 +1,150 @@
+-- What stands in the rule file of a table from each part on. Assumes nothing.
+use mathlib.Core.Path.{_≡_, refl, sym, _∙_, ap}
+use mathlib.Core.List.{List, [], _∷_, _++_, append-assoc}
+use Prim.Native.Nat.{ℕ, suc, _+_, _*_, _^_, _<_}
+use native.Mathlib.Nat.{zero-add}
+use native.Mathlib.Omega.{arith}
+use lib.ListN.{length, getD, take, drop, length-append, length-map, List·getD-append}
+use lib.Seq.{getD-drop, drop-drop, drop-at, split-at, length-take-le}
+use Rattle.words.specs.Lists.{upTo}
+use Rattle.words.proofs.Lists.{length-upTo, each-append, getD-map-upTo}
+use Rattle.meaning.specs.Table.{code, Row, Table}
+use Rattle.meaning.specs.Runs.{said}
+use Rattle.meaning.specs.Joining.{fileSize}
+use Rattle.table.specs.File.{byte, eight}
+use Rattle.joining.specs.Laid.{littleEndian, headBytes, contentBytes, classBytes, setBytes, rowBytes, rowsBytes}
+use Rattle.joining.specs.Laid.{fileOf}
+use Rattle.joining.proofs.Digits.{little-value}
+
+-- a byte, and eight of them, by what stands from a place on
+
+pub byte-from : (file l : List ℕ) (k j i : ℕ) → drop k file ≡ l → i ≡ k + j → byte file i ≡ getD l j 0
+byte-from file l k j i e f = rw f (sym (getD-drop k file j 0) ∙ ap (λ (l : List ℕ). getD l j 0) e)
+
+pub eight-from : (file rest : List ℕ) (k n : ℕ) → drop k file ≡ littleEndian 8 n ++ rest → n < 2 ^ 64 → eight file k ≡ n
+unfolding eight
+eight-from file rest k n e h =
+    let l = littleEndian 8 n ++ rest in
+    omega (
+      arith,
+      little-value 8 n h,
+      byte-from file l k 0 k e (omega arith),
+      byte-from file l k 1 (k + 1) e refl,
+      byte-from file l k 2 (k + 2) e refl,
+      byte-from file l k 3 (k + 2 + 1) e (omega arith),
+      byte-from file l k 4 (k + 4) e refl,
+      byte-from file l k 5 (k + 4 + 1) e (omega arith),
+      byte-from file l k 6 (k + 6) e refl,
+      byte-from file l k 7 (k + 6 + 1) e (omega arith),
+    )
+
+-- rows
+
+pub rows-length : (s : ℕ) (l : List Row) → length (rowsBytes s l) ≡ 8 * length l
+rows-length s [] = refl
+rows-length s (r ∷ l) = omega (arith, rows-length (s + length (r .word)) l)
+
+pub rows-append : (s : ℕ) (l m : List Row) → rowsBytes s (l ++ m) ≡ rowsBytes s l ++ rowsBytes (s + length (said l)) m
+rows-append s [] m = ap (λ (s : ℕ). rowsBytes s m) (omega arith)
+rows-append s (r ∷ l) m =
+    let e : s + length (r .word) + length (said l) ≡ s + length (said (r ∷ l)) =
+    omega (arith, length-append (r .word) (said l)) in
+    ap (λ (x : List ℕ). rowBytes s r ++ x)
+    (rw e at (rows-append (s + length (r .word)) l m))
+
+-- what stands past the last row of a table
+abbrev pub noRow : Row
+noRow = record { symbol = 0; from = 0; to = 0; marker = 0; word = [] }
+
+module _ (T : Table) where
+  -- the file from its rows on, from each of its sets on, and from its classes on
+  abbrev pub fromRows : List ℕ
+  fromRows = rowsBytes 0 (T .rows) ++ said (T .rows)
+
+  abbrev pub fromFinal : List ℕ
+  fromFinal = setBytes (T .final) ++ fromRows
+
+  abbrev pub fromStarting : List ℕ
+  fromStarting = setBytes (T .starting) ++ fromFinal
+
+  abbrev pub fromClasses : List ℕ
+  fromClasses = classBytes T ++ fromStarting
+
+  pub parts : fileOf T ≡ headBytes T ++ contentBytes T ++ fromClasses
+  unfolding fileOf
+  parts = simp append-assoc
+
+  classes-length : length (classBytes T) ≡ 256
+  unfolding classBytes
+  classes-length = length-map (upTo 256) (λ a. code (T .class a)) ∙ length-upTo 256
+
+  pub at-classes : drop 28 (fileOf T) ≡ fromClasses
+  at-classes = ap (λ (l : List ℕ). drop 28 l) parts
+
+  pub class-byte : (a : ℕ) → a < 256 → byte (fileOf T) (28 + a) ≡ code (T .class a)
+  unfolding classBytes
+  class-byte a lt =
+      byte-from (fileOf T) fromClasses 28 a (28 + a) at-classes refl
+      ∙ List·getD-append (classBytes T) fromStarting 0 a (omega (arith, classes-length))
+      ∙ getD-map-upTo (λ a. code (T .class a)) 256 a 0 lt
+
+  pub at-starting : drop 284 (fileOf T) ≡ fromStarting
+  at-starting =
+      sym (drop-drop 256 28 (fileOf T)) ∙ ap (λ (l : List ℕ). drop 256 l) at-classes
+      ∙ drop-at (classBytes T) fromStarting 256 classes-length
+
+  pub at-final : drop 292 (fileOf T) ≡ fromFinal
+  at-final = sym (drop-drop 8 284 (fileOf T)) ∙ ap (λ (l : List ℕ). drop 8 l) at-starting
+
+  pub at-rows : drop 300 (fileOf T) ≡ fromRows
+  at-rows = sym (drop-drop 8 292 (fileOf T)) ∙ ap (λ (l : List ℕ). drop 8 l) at-final
+
+  pub at-words : drop (300 + 8 * length (T .rows)) (fileOf T) ≡ said (T .rows)
+  at-words =
+      sym (drop-drop (8 * length (T .rows)) 300 (fileOf T))
+      ∙ ap (λ (l : List ℕ). drop (8 * length (T .rows)) l) at-rows
+      ∙ drop-at (rowsBytes 0 (T .rows)) (said (T .rows)) (8 * length (T .rows)) (rows-length 0 (T .rows))
+
+  pub file-length : length (fileOf T) ≡ fileSize T
+  file-length =
+      ap length parts ∙ simp length-append (omega (arith, classes-length, rows-length 0 (T .rows)))
+
+  -- a row; where its word starts, behind those of the rows before it; and the file from it on
+  abbrev pub rowOf : ℕ → Row
+  rowOf i = getD (T .rows) i noRow
+
+  abbrev pub wordStart : ℕ → ℕ
+  wordStart i = length (said (take i (T .rows)))
+
+  abbrev pub fromRow : ℕ → List ℕ
+  fromRow i =
+      rowBytes (wordStart i) (rowOf i)
+      ++ (rowsBytes (wordStart i + length (rowOf i .word)) (drop (suc i) (T .rows)) ++ said (T .rows))
+
+  module _ (i : ℕ) (lt : i < length (T .rows)) where
+    split : T .rows ≡ take i (T .rows) ++ rowOf i ∷ drop (suc i) (T .rows)
+    split = split-at (T .rows) i noRow lt
+
+    before : length (rowsBytes 0 (take i (T .rows))) ≡ 8 * i
+    before = omega (arith, rows-length 0 (take i (T .rows)), length-take-le i (T .rows) (omega arith))
+
+    split-rows : fromRows ≡ rowsBytes 0 (take i (T .rows)) ++ fromRow i
+    split-rows =
+        let e = rw (← split, zero-add) at (rows-append 0 (take i (T .rows)) (rowOf i ∷ drop (suc i) (T .rows))) in
+        ap (λ (l : List ℕ). l ++ said (T .rows)) e
+        ∙ append-assoc (rowsBytes 0 (take i (T .rows))) _ (said (T .rows))
+
+    pub at-row : drop (300 + 8 * i) (fileOf T) ≡ fromRow i
+    at-row =
+        sym (drop-drop (8 * i) 300 (fileOf T))
+        ∙ ap (λ (l : List ℕ). drop (8 * i) l) (at-rows ∙ split-rows)
+        ∙ drop-at (rowsBytes 0 (take i (T .rows))) (fromRow i) (8 * i) before
+
+    pub split-words : said (T .rows) ≡ said (take i (T .rows)) ++ said (rowOf i ∷ drop (suc i) (T .rows))
+    split-words = ap said split ∙ each-append (λ r. r .word) (take i (T .rows)) (rowOf i ∷ drop (suc i) (T .rows))
+
+    pub at-word : drop (300 + 8 * length (T .rows) + wordStart i) (fileOf T) ≡ said (rowOf i ∷ drop (suc i) (T .rows))
+    at-word =
+        sym (drop-drop (wordStart i) (300 + 8 * length (T .rows)) (fileOf T))
+        ∙ ap (λ (l : List ℕ). drop (wordStart i) l) (at-words ∙ split-words)
+        ∙ drop-at (said (take i (T .rows))) (said (rowOf i ∷ drop (suc i) (T .rows))) (wordStart i) refl

@@ -1,0 +1,2 @@
+-- What must be believed of joining beyond `meaning`: the bytes of a table's rule file.
+pub mod Laid
