@@ -5,4 +5,5 @@ pub mod Back
 pub mod GoodFile
 pub mod FileBytes
 pub mod JoinedFile
+pub mod Promised
 pub mod Worked

@@ -1,0 +1,41 @@
+-- What join promises, over the lists at entry and at exit, with numbers for answers; and demand 3 of its files.
+use mathlib.Core.Path.{_≡_}
+use mathlib.Core.Logic.{_↔_}
+use mathlib.Core.List.{List, _++_}
+use Prim.Native.Nat.{ℕ}
+use lib.ListN.{length, drop}
+use Rattle.words.specs.Words.{Word, Bytes}
+use Rattle.meaning.specs.Table.{edition1}
+use Rattle.meaning.specs.Runs.{Allowed}
+use Rattle.meaning.specs.Joining.{joined, joinNumber, After}
+use Rattle.table.specs.File.{tableOf}
+use Rattle.table.specs.Good.{Good, first as edition}
+use Rattle.joining.specs.Laid.{fileOf}
+
+-- the answer that a table is bad, and which
+abbrev pub Blames : ℕ → ℕ → ℕ → Type 0
+Blames number which n = (number ≡ 1) × (which ≡ n)
+
+-- the file of the joined table
+abbrev pub joinedFile : List ℕ → List ℕ → List ℕ
+joinedFile one two = fileOf (joined (tableOf one) (tableOf two))
+
+-- "Join: 1 (with 1 or 2 for the table, the first looked at first), 14, 15, 10 … A refusal gives byte count 0 and
+-- changes neither session nor output … Success writes from the output's start, gives the byte count, and changes
+-- nothing after it"; on answers other than 1 no table is named
+pub record Joins (one two out : List ℕ) (number which count : ℕ) (out′ : List ℕ) : Type 0 where
+  pub good-first : (Blames number which 1 → ⊥) ↔ Good edition one
+  pub bad-first : Blames number which 1 ↔ (Good edition one → ⊥)
+  pub good-second : Good edition one → (Blames number which 2 → ⊥) ↔ Good edition two
+  pub bad-second : Good edition one → Blames number which 2 ↔ (Good edition two → ⊥)
+  pub otherwise : Good edition one → Good edition two
+      → (number ≡ joinNumber edition1 (length out) (tableOf one) (tableOf two)) × (which ≡ 0)
+  pub refused : (number ≡ 0 → ⊥) → (count ≡ 0) × (out′ ≡ out)
+  pub counted : number ≡ 0 → count ≡ length (joinedFile one two)
+  pub written : number ≡ 0 → out′ ≡ joinedFile one two ++ drop count out
+
+-- demand 3: "exactly what the second allows on some output of the first", of the file that join wrote
+pub record Hopped (one two file : List ℕ) : Type 0 where
+  pub good : Good edition file
+  pub bytes : Bytes file
+  pub allows : (u w : Word) → Allowed (tableOf file) u w ↔ After (tableOf one) (tableOf two) u w
