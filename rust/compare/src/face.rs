@@ -1,0 +1,175 @@
+//! The library under comparison, called through its C interface with guarded buffers.
+
+use crate::session::BYTES;
+
+const WORK: usize = 49_664;
+const GUARD: usize = 64;
+const UNTOUCHED: usize = 0x5a5a_5a5a_5a5a;
+
+extern "C" {
+    fn jermanuts_check(file: *const u8, file_len: usize) -> u32;
+    fn jermanuts_begin(file: *const u8, file_len: usize, session: *mut u8, states: *mut u32)
+        -> u32;
+    fn jermanuts_step(
+        file: *const u8,
+        file_len: usize,
+        session: *mut u8,
+        symbol: u8,
+        out: *mut u8,
+        out_len: usize,
+        count: *mut usize,
+    ) -> u32;
+    fn jermanuts_step_in(
+        file: *const u8,
+        file_len: usize,
+        session: *mut u8,
+        symbol: u8,
+        out: *mut u8,
+        out_len: usize,
+        count: *mut usize,
+        work: *mut u8,
+    ) -> u32;
+    fn jermanuts_finish(
+        file: *const u8,
+        file_len: usize,
+        session: *const u8,
+        out: *mut u8,
+        out_len: usize,
+        count: *mut usize,
+    ) -> u32;
+}
+
+/// What a call gave back and left behind, as far as the call has such a thing.
+#[derive(Clone, Debug, PartialEq, Eq)]
+pub struct Reply {
+    pub number: u32,
+    pub count: usize,
+    pub out: Vec<u8>,
+    pub session: Vec<u8>,
+    pub harm: Option<&'static str>,
+}
+
+#[derive(Clone, Copy, Debug, PartialEq, Eq)]
+pub enum Call {
+    Check,
+    Begin,
+    Step,
+    StepIn,
+    Finish,
+}
+
+pub const CALLS: [(Call, &str); 5] = [
+    (Call::Check, "check"),
+    (Call::Begin, "begin"),
+    (Call::Step, "step"),
+    (Call::StepIn, "step_in"),
+    (Call::Finish, "finish"),
+];
+
+/// A lent buffer between two guards; where it starts changes, so no alignment is promised.
+struct Lent {
+    bytes: Vec<u8>,
+    start: usize,
+    length: usize,
+}
+
+fn guard(at: usize) -> u8 {
+    (at as u8).wrapping_mul(29) ^ 0xa7
+}
+
+impl Lent {
+    fn new(turn: usize, content: &[u8]) -> Lent {
+        let start = GUARD + turn % 8;
+        let mut bytes: Vec<u8> = (0..start).map(guard).collect();
+        bytes.extend_from_slice(content);
+        bytes.extend((bytes.len()..bytes.len() + GUARD).map(guard));
+        Lent {
+            bytes,
+            start,
+            length: content.len(),
+        }
+    }
+
+    /// Taken from the whole, so that a write into a guard would be seen, not assumed away.
+    fn pointer(&mut self) -> *mut u8 {
+        self.bytes.as_mut_ptr().wrapping_add(self.start)
+    }
+
+    fn content(&self) -> &[u8] {
+        &self.bytes[self.start..][..self.length]
+    }
+
+    fn guards_hold(&self) -> bool {
+        let holds = |at: usize| self.bytes[at] == guard(at);
+        (0..self.start).all(holds) && (self.start + self.length..self.bytes.len()).all(holds)
+    }
+}
+
+/// The byte that fills the lent output before a call, by its place.
+pub fn filling(room: usize) -> Vec<u8> {
+    (0..room)
+        .map(|at| (at as u8).wrapping_mul(31) ^ 0x3c)
+        .collect()
+}
+
+/// Calls the library once; calls that lack a symbol, a room or a session pass over it.
+pub fn ask(call: Call, file: &[u8], session: &[u8], symbol: u8, room: usize, turn: usize) -> Reply {
+    assert_eq!(session.len(), BYTES);
+    let mut lent_file = Lent::new(turn, file);
+    let mut lent_session = Lent::new(turn / 3, session);
+    let mut out = Lent::new(turn / 5, &filling(room));
+    // The work is never clean, and never twice the same.
+    let dirt = (turn as u8).wrapping_mul(37) ^ 0x55;
+    let mut work = Lent::new(
+        turn / 7,
+        &vec![dirt; if call == Call::StepIn { WORK } else { 0 }],
+    );
+    let mut counts = [UNTOUCHED; 3];
+    let mut states = [UNTOUCHED as u32; 3];
+
+    let (f, n) = (lent_file.pointer().cast_const(), file.len());
+    let (s, o, w) = (lent_session.pointer(), out.pointer(), work.pointer());
+    let c = counts.as_mut_ptr().wrapping_add(1);
+    let t = states.as_mut_ptr().wrapping_add(1);
+    // SAFETY: every pointer leads to a live buffer of the length that the interface asks for,
+    // and no two of them overlap.
+    let number = unsafe {
+        match call {
+            Call::Check => jermanuts_check(f, n),
+            Call::Begin => jermanuts_begin(f, n, s, t),
+            Call::Step => jermanuts_step(f, n, s, symbol, o, room, c),
+            Call::StepIn => jermanuts_step_in(f, n, s, symbol, o, room, c, w),
+            Call::Finish => jermanuts_finish(f, n, s.cast_const(), o, room, c),
+        }
+    };
+
+    let harm = [
+        ("a guard of the file", !lent_file.guards_hold()),
+        ("the file", lent_file.content() != file),
+        ("a guard of the session", !lent_session.guards_hold()),
+        ("a guard of the output", !out.guards_hold()),
+        ("a guard of the work", !work.guards_hold()),
+        (
+            "a neighbour of the byte count",
+            counts[0] != UNTOUCHED || counts[2] != UNTOUCHED,
+        ),
+        (
+            "a neighbour of the state count",
+            states[0] != UNTOUCHED as u32 || states[2] != states[0],
+        ),
+    ];
+    Reply {
+        number,
+        count: match call {
+            Call::Check => 0,
+            Call::Begin => states[1] as usize,
+            _ => counts[1],
+        },
+        out: out.content().to_vec(),
+        session: lent_session.content().to_vec(),
+        harm: harm
+            .iter()
+            .find(|(_, harmed)| *harmed)
+            .map(|(name, _)| *name),
+    }
+}
