@@ -118,7 +118,7 @@ pub fn ask(call: Call, file: &[u8], session: &[u8], symbol: u8, room: usize, tur
     let mut lent_file = Lent::new(turn, file);
     let mut lent_session = Lent::new(turn / 3, session);
     let mut out = Lent::new(turn / 5, &filling(room));
-    // The work is never clean, and never twice the same.
+    // The work comes with dirt that changes from turn to turn.
     let dirt = (turn as u8).wrapping_mul(37) ^ 0x55;
     let mut work = Lent::new(
         turn / 7,

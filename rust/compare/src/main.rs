@@ -52,11 +52,8 @@ fn case(bench: &mut Bench, rng: &mut Rng) -> Outcome {
         bench.check(&damaged)?;
         let fresh = bench.begin(&damaged, &bytes)?;
         let tampered = sessions::tamper(rng, &bytes, table);
-        bench.poke(
-            &damaged,
-            if rng.chance(70) { &bytes } else { &tampered },
-            rng,
-        )?;
+        let held = if rng.chance(70) { &bytes } else { &tampered };
+        bench.poke(&damaged, held, rng)?;
         if let Some(fresh) = fresh.filter(|_| rng.chance(40)) {
             bench.walk(&damaged, &subject, &fresh, true, rng)?;
         }

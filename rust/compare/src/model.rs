@@ -142,13 +142,8 @@ pub fn step(table: &Table, runs: &[Run], symbol: u8, room: usize) -> Result<Move
     if runs.is_empty() {
         return Err(Number::NoRun);
     }
-    if runs
-        .iter()
-        .flat_map(Run::links)
-        .collect::<BTreeSet<Link>>()
-        .len()
-        > MOST_LINKS
-    {
+    let links: BTreeSet<Link> = runs.iter().flat_map(Run::links).collect();
+    if links.len() > MOST_LINKS {
         return Err(Number::Crowded);
     }
     if runs.windows(2).any(|two| two[0].trail == two[1].trail) {
@@ -159,10 +154,8 @@ pub fn step(table: &Table, runs: &[Run], symbol: u8, room: usize) -> Result<Move
     for run in &mut runs {
         run.waiting.drain(..sent.len());
     }
-    if runs
-        .iter()
-        .any(|run| run.waiting.len() > usize::from(table.waiting_cap))
-    {
+    let cap = usize::from(table.waiting_cap);
+    if runs.iter().any(|run| run.waiting.len() > cap) {
         return Err(Number::Backlog);
     }
     if sent.len() > room {

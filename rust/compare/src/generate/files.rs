@@ -3,7 +3,7 @@
 use super::Rng;
 use crate::file::{Row, Table, BODIES, HEAD, INTERNAL, MOST_ROWS, MOST_WORDS, ROW};
 
-/// The bytes of a good table, and the table that they say: rows without room for a word are dropped.
+/// The bytes of a good table; rows whose words find no more room are dropped.
 pub fn lay(rng: &mut Rng, table: &Table) -> Vec<u8> {
     let sharing = rng.chance(60);
     let mut words: Vec<u8> = (0..rng.pick(&[0, 0, 1, 9])).map(|_| rng.byte()).collect();
@@ -47,15 +47,9 @@ pub fn lay(rng: &mut Rng, table: &Table) -> Vec<u8> {
     }
     let [low, high] = table.waiting_cap.to_le_bytes();
     let caps = [1, table.states, table.markers, table.depth_cap, low, high];
-    let sets = [
-        table.starting.to_le_bytes().to_vec(),
-        table.finals.to_le_bytes().to_vec(),
-    ];
-    let [starting, finals] = sets;
-    assemble(
-        caps,
-        &[table.classes.to_vec(), starting, finals, rows, words],
-    )
+    let [starting, finals] = [table.starting, table.finals].map(|set| set.to_le_bytes().to_vec());
+    let bodies = [table.classes.to_vec(), starting, finals, rows, words];
+    assemble(caps, &bodies)
 }
 
 /// A file whose contents agree with its bodies, whatever those are.

@@ -133,7 +133,6 @@ fn loosen(rng: &mut Rng, entries: &mut [Entry]) {
 pub fn tamper(rng: &mut Rng, sound: &[u8], table: &Table) -> Vec<u8> {
     let mut bytes = sound.to_vec();
     let count = usize::from(bytes[1]).clamp(1, MOST_LINKS);
-    let (states, markers) = (usize::from(table.states), usize::from(table.markers));
     let other = rng.within(1, 255) as u8;
     match rng.below(16) {
         0 => bytes[rng.below(BYTES)] ^= other,
@@ -144,39 +143,26 @@ pub fn tamper(rng: &mut Rng, sound: &[u8], table: &Table) -> Vec<u8> {
                 rng.pick(&[1, 2, 3, other])
         }
         4 => {
-            bytes[0] = rng.pick(&[
-                bytes[0].wrapping_sub(1),
-                bytes[0] + 1,
-                0,
-                32,
-                33,
-                table.depth_cap + 1,
-                255,
-            ])
+            let (less, more) = (bytes[0].wrapping_sub(1), bytes[0] + 1);
+            bytes[0] = rng.pick(&[less, more, 0, 32, 33, table.depth_cap + 1, 255]);
         }
         5 => bytes[1] = rng.pick(&[bytes[1] - 1, bytes[1] + 1, 0, 64, 65, 255]),
-        // Places after the last link, and after the last byte of a piece.
-        6 if count < MOST_LINKS => {
+        // Places after the last link; when there are none, links after the last place.
+        6 if count == MOST_LINKS => bytes[1] = rng.pick(&[65, 65, 128, 255]),
+        6 => {
             let at = rng.within(count, MOST_LINKS - 1);
             let (start, size) = rng.pick(&[(LINKS_AT, 5), (LENGTHS_AT, 2), (PIECES_AT, PIECE)]);
             bytes[start + size * at + rng.below(size)] = other;
         }
         7 => {
             let at = rng.below(count);
-            let length = rng.pick(&[
-                511u16,
-                512,
-                513,
-                514,
-                65_535,
-                table.waiting_cap,
-                table.waiting_cap + 1,
-            ]);
+            let cap = table.waiting_cap;
+            let length: u16 = rng.pick(&[511, 512, 513, 514, 65_535, cap, cap + 1]);
             bytes[LENGTHS_AT + 2 * at..][..2].copy_from_slice(&length.to_le_bytes());
         }
         _ => {
             let (mut depth, mut entries) = session::unlay(&bytes);
-            reshape(rng, table, &mut depth, &mut entries, (states, markers));
+            reshape(rng, table, &mut depth, &mut entries);
             bytes = session::lay(depth, &entries);
         }
     }
@@ -184,16 +170,11 @@ pub fn tamper(rng: &mut Rng, sound: &[u8], table: &Table) -> Vec<u8> {
 }
 
 /// Breaks one rule of the links or pieces and keeps the others where it can.
-fn reshape(
-    rng: &mut Rng,
-    table: &Table,
-    depth: &mut usize,
-    entries: &mut Vec<Entry>,
-    (states, markers): (usize, usize),
-) {
+fn reshape(rng: &mut Rng, table: &Table, depth: &mut usize, entries: &mut Vec<Entry>) {
     if entries.is_empty() {
         return;
     }
+    let (states, markers) = (usize::from(table.states), usize::from(table.markers));
     let at = rng.below(entries.len());
     let chosen = entries[at].0;
     let byte = rng.pick(b"abOpxyz");
