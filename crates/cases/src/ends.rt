@@ -22,35 +22,14 @@ pub fn all() {
     three(b"three runs, two that differ accept", b"\x05", 0);
 }
 
-// The number that an answer of `finish` stands for.
-fn ended(ending: engine::Ending) -> u64 {
-    match ending {
-        engine::Ending::Taken { count: _ } => 0,
-        engine::Ending::BadTable => 1,
-        engine::Ending::BadSession => 2,
-        engine::Ending::Unclosed => 11,
-        engine::Ending::NotFinal => 12,
-        engine::Ending::Ambiguous => 13,
-        engine::Ending::NoRoom => 10,
-    }
-}
-
-// The byte count that an answer of `finish` gives.
-fn written(ending: engine::Ending) -> u64 {
-    match ending {
-        engine::Ending::Taken { count } => count as u64,
-        _ => 0,
-    }
-}
-
 // The end, with so much room of four dots: the number, the byte count, and the dots.
 fn asked(file: &[u8], session: &[u8; SIZE], room: usize)
     requires { ⌜ room ≤ 4 ⌝ }
 {
     let mut out = [46u8; 4];
-    let ending = lent(file, session, &mut out[..], room);
+    let said = engine::said_by_finish(lent(file, session, &mut out[..], room));
     io::write_all(1, b"finish: ");
-    told(ended(ending), written(ending));
+    told(said.number as u64, said.count as u64);
     io::write_all(1, &out[..]);
     io::write_all(1, b"\n");
 }

@@ -20,41 +20,16 @@ pub fn all() {
     crowds();
 }
 
-// The number that an answer of `step` stands for.
-fn answered(answer: engine::Answer) -> u64 {
-    match answer {
-        engine::Answer::Taken { count: _ } => 0,
-        engine::Answer::BadTable => 1,
-        engine::Answer::BadSession => 2,
-        engine::Answer::UnknownSymbol => 3,
-        engine::Answer::Unopened => 4,
-        engine::Answer::TooDeep => 5,
-        engine::Answer::NoRun => 6,
-        engine::Answer::Crowded => 7,
-        engine::Answer::Conflict => 8,
-        engine::Answer::Backlog => 9,
-        engine::Answer::NoRoom => 10,
-    }
-}
-
-// The byte count that an answer of `step` gives.
-fn sent(answer: engine::Answer) -> u64 {
-    match answer {
-        engine::Answer::Taken { count } => count as u64,
-        _ => 0,
-    }
-}
-
 // One symbol, with so much room of four dots: the number, the byte count, depth and links after it, and the dots.
 fn took(file: &[u8], session: &mut [u8; SIZE], symbol: u8, room: usize)
     requires { ⌜ room ≤ 4 ⌝ }
 {
     let mut out = [46u8; 4];
-    let answer = lent(file, session, symbol, &mut out[..], room);
+    let said = engine::said_by_step(lent(file, session, symbol, &mut out[..], room));
     io::write_all(1, b"step ");
     io::print_decimal(1, symbol as u64);
     io::write_all(1, b": ");
-    told(answered(answer), sent(answer));
+    told(said.number as u64, said.count as u64);
     held(session);
     io::write_all(1, &out[..]);
     io::write_all(1, b"\n");

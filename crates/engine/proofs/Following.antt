@@ -12,8 +12,7 @@ use Rattle.words.proofs.Lists.{each-map, getD-byte}
 use Rattle.meaning.specs.Table.{Class, unused, call, return, internal, Row}
 use Rattle.meaning.specs.Trails.{Link}
 use Rattle.table.specs.File.{byte, rowCount, wordOf, rowAt, tableOf}
-use Rattle.table.specs.Calls.{FirstRow, WordIn}
-use Rattle.table.proofs.Passed.{word-in}
+use Rattle.table.specs.Calls.{FirstRow}
 use Rattle.table.proofs.Stands.{rows-of}
 use Rattle.session.specs.Sessions.{Entry, entry}
 use Rattle.session.specs.Bytes.{linkStart, pieceRoom, countOf, lengthAt, linkAt, pieceAt, entryAt, sessionOf}
@@ -33,9 +32,6 @@ pub fitting-only : {e : Entry} → Fitting (e ∷ []) → Plain (e .link) × (le
 fitting-only {e} f = f .each e (List·Memᴰ·head refl)
 
 module _ {file session : List ℕ} (u : Usable file session) where
-  pub word-stands : (r : ℕ) → r < rowCount file → WordIn file r
-  word-stands r l = word-in file r (u .good .contents) l (u .good .rows .fit r l)
-
   pub piece-stands : (i : ℕ) → i < countOf session → (i < 64) × (lengthAt session i ≤ pieceRoom)
   piece-stands i l = let n = u .kept .count in (omega arith, u .kept .short i l)
 

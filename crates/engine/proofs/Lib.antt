@@ -19,3 +19,4 @@ pub mod Asked
 pub mod Ended
 pub mod Accepting
 pub mod Closing
+pub mod Telling

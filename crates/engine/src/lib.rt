@@ -5,6 +5,7 @@ mod finishing;
 mod growth;
 mod keeping;
 mod lower;
+mod saying;
 mod settling;
 mod slots;
 mod taking;
@@ -12,6 +13,9 @@ mod write;
 
 pub use finishing::Ending;
 pub use finishing::finish;
+pub use saying::Said;
+pub use saying::said_by_finish;
+pub use saying::said_by_step;
 pub use slots::WORK;
 pub use taking::Answer;
 pub use taking::step;

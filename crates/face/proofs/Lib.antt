@@ -1,2 +1,2 @@
--- Answers told by their numbers; and that one answer meets each promise.
-pub mod Said
+-- The promises of check and begin, by the number and the values that their answers stand for.
+mod Said

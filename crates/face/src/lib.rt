@@ -1,16 +1,15 @@
 // The calls for programs in C and Rust: each answers the scope's number, and what else a call gives is written where
 // the caller says.
-use engine::Answer;
-use engine::Ending;
 use engine::WORK;
+use engine::said_by_finish;
+use engine::said_by_step;
 use session::Opening;
 use session::places::SIZE;
 use table::Verdict;
 ghost use mathlib.Core.Path.{_≡_};
-ghost use Rattle.session.specs.Calls.{numberOf as openingNumber, statesOf};
-ghost use Rattle.engine.specs.Calls.{numberOf, countOf, endingNumber, endingCount};
+ghost use Rattle.table.specs.Calls.{Judged};
+ghost use Rattle.session.specs.Calls.{numberOf, statesOf, Begins};
 ghost use Rattle.stepping.specs.Promises.{Stepped, Finished};
-ghost use Rattle.face.specs.Calls.{Judged, Begins};
 
 #[no_mangle]
 pub extern "C" fn jermanuts_check(file: &[u8]) -> u32
@@ -44,9 +43,9 @@ pub extern "C" fn jermanuts_step(
         Stepped (now (file .entry)) (now (session .entry)) symbol (now (out .entry)) r (now (count .exit))
         (now (session .exit)) (now (out .exit)) ⌝ }
 {
-    let answer = engine::step(file, session, symbol, out);
-    *count = count_of(answer);
-    number_of(answer)
+    let said = said_by_step(engine::step(file, session, symbol, out));
+    *count = said.count;
+    said.number as u32
 }
 
 #[no_mangle]
@@ -62,9 +61,9 @@ pub extern "C" fn jermanuts_step_in(
         Stepped (now (file .entry)) (now (session .entry)) symbol (now (out .entry)) r (now (count .exit))
         (now (session .exit)) (now (out .exit)) ⌝ }
 {
-    let answer = engine::step_in(file, session, symbol, out, work);
-    *count = count_of(answer);
-    number_of(answer)
+    let said = said_by_step(engine::step_in(file, session, symbol, out, work));
+    *count = said.count;
+    said.number as u32
 }
 
 #[no_mangle]
@@ -78,13 +77,13 @@ pub extern "C" fn jermanuts_finish(
         Finished (now (file .entry)) (now (session .entry)) (now (out .entry)) r (now (count .exit))
         (now (out .exit)) ⌝ }
 {
-    let ending = engine::finish(file, session, out);
-    *count = ending_count(ending);
-    ending_number(ending)
+    let said = said_by_finish(engine::finish(file, session, out));
+    *count = said.count;
+    said.number as u32
 }
 
 fn opening_number(opening: Opening) -> u32
-    ensures { λ r. ⌜ r ≡ openingNumber opening ⌝ }
+    ensures { λ r. ⌜ r ≡ numberOf opening ⌝ }
 {
     match opening {
         Opening::Taken { states: _ } => 0,
@@ -98,69 +97,5 @@ fn states_of(opening: Opening) -> u32
     match opening {
         Opening::Taken { states } => states,
         Opening::BadTable => 0,
-    }
-}
-
-fn number_of(answer: Answer) -> u32
-    ensures { λ r. ⌜ r ≡ numberOf answer ⌝ }
-{
-    match answer {
-        Answer::Taken { count: _ } => 0,
-        Answer::BadTable => 1,
-        Answer::BadSession => 2,
-        Answer::UnknownSymbol => 3,
-        Answer::Unopened => 4,
-        Answer::TooDeep => 5,
-        Answer::NoRun => 6,
-        Answer::Crowded => 7,
-        Answer::Conflict => 8,
-        Answer::Backlog => 9,
-        Answer::NoRoom => 10,
-    }
-}
-
-fn count_of(answer: Answer) -> usize
-    ensures { λ r. ⌜ r ≡ countOf answer ⌝ }
-{
-    match answer {
-        Answer::Taken { count } => count,
-        Answer::BadTable => 0,
-        Answer::BadSession => 0,
-        Answer::UnknownSymbol => 0,
-        Answer::Unopened => 0,
-        Answer::TooDeep => 0,
-        Answer::NoRun => 0,
-        Answer::Crowded => 0,
-        Answer::Conflict => 0,
-        Answer::Backlog => 0,
-        Answer::NoRoom => 0,
-    }
-}
-
-fn ending_number(ending: Ending) -> u32
-    ensures { λ r. ⌜ r ≡ endingNumber ending ⌝ }
-{
-    match ending {
-        Ending::Taken { count: _ } => 0,
-        Ending::BadTable => 1,
-        Ending::BadSession => 2,
-        Ending::Unclosed => 11,
-        Ending::NotFinal => 12,
-        Ending::Ambiguous => 13,
-        Ending::NoRoom => 10,
-    }
-}
-
-fn ending_count(ending: Ending) -> usize
-    ensures { λ r. ⌜ r ≡ endingCount ending ⌝ }
-{
-    match ending {
-        Ending::Taken { count } => count,
-        Ending::BadTable => 0,
-        Ending::BadSession => 0,
-        Ending::Unclosed => 0,
-        Ending::NotFinal => 0,
-        Ending::Ambiguous => 0,
-        Ending::NoRoom => 0,
     }
 }

@@ -15,8 +15,6 @@ use Rattle.meaning.specs.Nesting.{andThen, level, isZero, nested, Nests}
 use Rattle.meaning.proofs.Tests.{is-exact}
 use Rattle.meaning.proofs.Nesting.{level-append, nested-exact}
 use Rattle.table.specs.File.{rowCount, rowStart, wordOf, rowAt, tableOf}
-use Rattle.table.specs.Calls.{WordIn}
-use Rattle.table.proofs.Passed.{word-in}
 use Rattle.table.proofs.Stands.{rows-of}
 use Rattle.joiner.specs.Nesting.{Hops, levelOf, Few, Opens, Known, AllKnown}
 use Rattle.joiner.specs.Nesting.{PairNests, PairsNest, RowNests, RowsNest}
@@ -35,13 +33,9 @@ module _ (file : List ℕ) where
       let x = Memᴰ·of-map (rowAt file) (upTo (rowCount file)) (rw (rows-of file) at m) in
       rw (← x .2) (f (x .0) (upTo-out (rowCount file) (x .0) (x .1)))
 
--- their words stand in the file, and are short
-module _ {a b : List ℕ} (h : Hops a b) where
-  pub word-stands : (i : ℕ) → i < rowCount a → WordIn a i
-  word-stands i l = word-in a i (h .first .contents) l (h .first .rows .fit i l)
-
-  pub word-short : (i : ℕ) {w : Word} → w ≡ wordOf a i → length w ≤ 255
-  word-short i e = rw e (simp length-take (let n = getD-byte a (h .bytes) (rowStart i + 6) in omega arith))
+-- their words are short
+pub word-short : {a b : List ℕ} → Hops a b → (i : ℕ) {w : Word} → w ≡ wordOf a i → length w ≤ 255
+word-short {a} h i e = rw e (simp length-take (let n = getD-byte a (h .bytes) (rowStart i + 6) in omega arith))
 
 -- few are open where nothing was read, and after the word of a row
 pub none-few : Few (Open 0)

@@ -12,9 +12,6 @@ use Rattle.words.specs.Words.{Word}
 use Rattle.words.proofs.Exact.{exact-same}
 use Rattle.stepping.specs.Promises.{Stepped, sendsOn, Finished, restOn}
 use Rattle.stepping.proofs.Told.{stepped-unique, finished-unique}
-use Rattle.engine.specs.Calls.{numberOf, countOf, Answered, endingNumber, endingCount, Ended}
-use Rattle.engine.specs.declared.taking.Answer.{Answer}
-use Rattle.engine.specs.declared.finishing.Ending.{Ending}
 use Rattle.lines.specs.Text.{line, ending}
 use Rattle.lines.specs.Calls.{Room, Told, EndTold}
 use Rattle.lines.specs.declared.telling.Tried.{Tried}
@@ -33,21 +30,12 @@ within number count w out out′ refused counted written = by (eqb number 0) ref
     by false e = omega (arith, refused (eqb-false number 0 e))
 
 module _ {file session : List ℕ} {symbol : ℕ} {out session′ out′ : List ℕ} where
-  -- by the number and the count that an answer stands for
-  pub said-stepped : (r : Answer) (number count : ℕ) → number ≡ numberOf r → count ≡ countOf r
-      → Answered file session symbol out r session′ out′ → Stepped file session symbol out number count session′ out′
-  said-stepped r number count e f a = rw (e, f) a
-
   pub sent-within : (number count : ℕ) → Stepped file session symbol out number count session′ out′
       → count ≤ length out′
   sent-within number count s =
       within number count (sendsOn file session symbol) out out′ (λ no. s .refused no .0) (s .counted) (s .written)
 
 module _ {file session out out′ : List ℕ} where
-  pub said-finished : (r : Ending) (number count : ℕ) → number ≡ endingNumber r → count ≡ endingCount r
-      → Ended file session out r out′ → Finished file session out number count out′
-  said-finished r number count e f a = rw (e, f) a
-
   pub rest-within : (number count : ℕ) → Finished file session out number count out′ → count ≤ length out′
   rest-within number count s =
       within number count (restOn file session) out out′ (λ no. s .refused no .0) (s .counted) (s .written)

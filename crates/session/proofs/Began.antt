@@ -2,11 +2,14 @@
 -- meets its contract. Assumes nothing.
 use mathlib.Core.Path.{_≡_, refl, sym, _∙_, ap, subst}
 use mathlib.Core.Logic.{_↔_}
+use mathlib.Core.Bool.{Bool, true, false}
 use mathlib.Core.Option.{none}
 use mathlib.Core.List.{List, [], map, Memᴰ·of-map}
 use Prim.Native.Nat.{ℕ, _<_, _≤_}
 use native.Mathlib.Omega.{arith}
+use lib.Dec.{eqb}
 use lib.ListN.{length, length-map}
+use borrow.Author.Tests.{eqb-true, eqb-false}
 use Rattle.words.specs.Lists.{_among_}
 use Rattle.words.specs.Words.{Word, Bytes}
 use Rattle.words.proofs.Lists.{bytes-nil, bytes-cons}
@@ -17,11 +20,11 @@ use Rattle.meaning.specs.Answers.{linksCap, Moment, opened}
 use Rattle.meaning.proofs.Living.{Reaches, living-exact, begun-count as living-count}
 use Rattle.table.specs.File.{tableOf}
 use Rattle.table.specs.Good.{first, Good}
-use Rattle.table.proofs.Told.{told-taken, told-bad}
+use Rattle.table.proofs.Told.{told-taken, told-bad, judged-unique}
 use Rattle.table.proofs.Stands.{starting-of}
 use Rattle.session.specs.Sessions.{Entry, Sound, trails, stands, starts, started, beginning}
 use Rattle.session.specs.Bytes.{pieceRoom, sessionOf, linkBytes, bytesOf, SoundBytes}
-use Rattle.session.specs.Calls.{numberOf, statesOf, Begun}
+use Rattle.session.specs.Calls.{numberOf, statesOf, Begins, Begun}
 use Rattle.session.specs.declared.fresh.Opening.{Opening}
 use Rattle.session.specs.declared.fresh.Opening.the-variants.{Taken, BadTable}
 use Rattle.session.proofs.Beginning.{beginning-sound, beginning-stands}
@@ -75,9 +78,8 @@ module _ (file : List ℕ) (good : Good first file) where
   begun-taken {session′ = session′} e f m =
       let is : session′ ≡ bytesOf (beginning T) = f ∙ ap (λ (l : List ℕ). bytesOf (started l)) e in
       record {
-        good = told-taken file good .good;
-        bad = told-taken file good .bad;
-        states = λ z. m ∙ ap length e;
+        judged = told-taken file good;
+        counted = λ z. m ∙ ap length e;
         none = λ z. absurd (omega arith);
         sound = λ z. rw is beginning-bytes;
         stands = λ z. ap (λ (B : List ℕ). stands (sessionOf B)) is ∙ beginning-is;
@@ -87,37 +89,58 @@ module _ (file : List ℕ) (good : Good first file) where
 pub begun-bad : {session : List ℕ} (file : List ℕ) → (Good first file → ⊥) → Begun file session BadTable session
 begun-bad file bad =
     record {
-      good = told-bad file bad .good;
-      bad = told-bad file bad .bad;
-      states = λ z. absurd (omega arith);
+      judged = told-bad file bad;
+      counted = λ z. absurd (omega arith);
       none = λ z. refl;
       sound = λ z. absurd (omega arith);
       stands = λ z. absurd (omega arith);
       kept = λ z. refl;
     }
 
--- two answers that meet the contract on one file and session are the same, and so are the sessions they leave
+-- two numbers, counts and sessions that meet the promise on one file and session are the same; so are two answers
+pub begins-unique : {file session : List ℕ} {m n s t : ℕ} {x y : List ℕ} → Begins file session m s x
+    → Begins file session n t y → (m ≡ n) × (s ≡ t) × (x ≡ y)
+begins-unique {file} {session} {m} {n} {s} {t} {x} {y} a b = go (eqb m 0) refl
+  where
+    same : m ≡ n
+    same = judged-unique (a .judged) (b .judged)
+
+    go : (k : Bool) → eqb m 0 ≡ k → (m ≡ n) × (s ≡ t) × (x ≡ y)
+    go true e =
+        let z = eqb-true m 0 e in
+        let z′ = sym same ∙ z in
+        let is = ap (λ (w : Moment). w .waiting) (a .stands z ∙ sym (b .stands z′)) in (
+          same,
+          a .counted z ∙ sym (b .counted z′),
+          bytes-one (tableOf file) x y (a .sound z) (b .sound z′) (λ p. rw is (λ m. m, λ m. m)),
+        )
+    go false e =
+        let one = a .judged .bad .1 (λ g. eqb-false m 0 e (a .judged .good .1 g)) in
+        let one′ = sym same ∙ one in
+        (same, a .none one ∙ sym (b .none one′), a .kept one ∙ sym (b .kept one′))
+
 pub begun-unique : (file session : List ℕ) (r q : Opening) (session′ session″ : List ℕ)
     → Begun file session r session′ → Begun file session q session″ → (r ≡ q) × (session′ ≡ session″)
-begun-unique file session (Taken n) (Taken m) B C b c =
-    let is : trails (sessionOf B) ≡ trails (sessionOf C) =
-    ap (λ (m : Moment). m .waiting) (b .stands refl ∙ sym (c .stands refl)) in (
-      ap Taken (b .states refl ∙ sym (c .states refl)),
-      bytes-one (tableOf file) B C (b .sound refl) (c .sound refl) (λ p. rw is (λ m. m, λ m. m)),
-    )
-begun-unique file session (Taken n) BadTable B C b c = absurd (c .bad .0 refl (b .good .0 refl))
-begun-unique file session BadTable (Taken m) B C b c = absurd (b .bad .0 refl (c .good .0 refl))
-begun-unique file session BadTable BadTable B C b c = (refl, b .kept refl ∙ sym (c .kept refl))
+begun-unique file session r q session′ session″ a b =
+    let u = begins-unique a b in
+    (one r q (u .0) (u .1), u .2)
+  where
+    one : (r q : Opening) → numberOf r ≡ numberOf q → statesOf r ≡ statesOf q → r ≡ q
+    one (Taken n) (Taken m) e f = ap Taken f
+    one (Taken n) BadTable e f = absurd (omega arith)
+    one BadTable (Taken m) e f = absurd (omega arith)
+    one BadTable BadTable e f = refl
 
 -- in words of runs: what waits in the session are the runs over the empty message, each trail with the output it has
-pub begun-runs : {file session session′ : List ℕ} {r : Opening} → Begun file session r session′ → numberOf r ≡ 0
-    → (t : Trail) (o : Word) → (place t o among trails (sessionOf session′)) ↔ Reaches (tableOf file) [] t o
+pub begun-runs : {file session session′ : List ℕ} {number states : ℕ} → Begins file session number states session′
+    → number ≡ 0 → (t : Trail) (o : Word)
+    → (place t o among trails (sessionOf session′)) ↔ Reaches (tableOf file) [] t o
 begun-runs {file} {session′ = session′} b z t o =
     let is : trails (sessionOf session′) ≡ living (tableOf file) [] = ap (λ (m : Moment). m .waiting) (b .stands z) in
     rw is (living-exact (tableOf file) [] t o)
 
 -- and there are as many as begin reports
-pub begun-count : {file session session′ : List ℕ} {r : Opening} → Begun file session r session′ → numberOf r ≡ 0
-    → statesOf r ≡ length (trails (sessionOf session′))
+pub begun-count : {file session session′ : List ℕ} {number states : ℕ} → Begins file session number states session′
+    → number ≡ 0 → states ≡ length (trails (sessionOf session′))
 begun-count {file} b z =
-    b .states z ∙ living-count (tableOf file) ∙ sym (ap (λ (m : Moment). length (m .waiting)) (b .stands z))
+    b .counted z ∙ living-count (tableOf file) ∙ sym (ap (λ (m : Moment). length (m .waiting)) (b .stands z))

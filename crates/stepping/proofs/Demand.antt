@@ -44,7 +44,7 @@ read-back w rest c e = (λ i. take (c i) (e i)) ∙ take-append-seam w rest
 behind : {file : List ℕ} {u z : Word} {session : List ℕ} → Served file u z session → Behind file u z session
 behind {file} (begun b e) =
     record {
-      good = b .good .0 e;
+      good = b .judged .good .0 e;
       sound = b .sound e;
       moment = opened (tableOf file);
       message = none;

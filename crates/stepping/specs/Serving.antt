@@ -1,5 +1,5 @@
 -- Demand 2 from begin to finish: what calls that meet their contracts have sent and answer, in words of runs alone.
--- Nothing here is of the code: whatever meets `Begun`, `Stepped` and `Finished` has it (`demand-2`, proofs/Demand).
+-- Nothing here is of the code: whatever meets `Begins`, `Stepped` and `Finished` has it (`demand-2`, proofs/Demand).
 use mathlib.Core.Path.{_≡_}
 use mathlib.Core.Logic.{_↔_}
 use mathlib.Core.List.{List, [], _∷_, _++_}
@@ -11,15 +11,14 @@ use Rattle.meaning.specs.Sentences.{First, Agreed, stepSentences, finishSentenc
 use Rattle.table.specs.File.{tableOf}
 use Rattle.table.specs.Good.{first, Good}
 use Rattle.session.specs.Bytes.{sessionOf, SoundBytes}
-use Rattle.session.specs.Calls.{numberOf, Begun}
-use Rattle.session.specs.declared.fresh.Opening.{Opening}
+use Rattle.session.specs.Calls.{Begins}
 use Rattle.stepping.specs.Promises.{Stepped, Finished}
 
 -- begin, then steps with any room: the symbols taken, all bytes that the calls said they wrote, and the session after
 -- them. "a refused symbol wasn't taken, and the next may be tried. Success writes from the output's start, gives the
 -- byte count"; finish "doesn't change the session", so it may be asked at any time and is no part of this
 pub data Served (file : List ℕ) : Word → Word → List ℕ → Type 0 where
-  begun : {session session′ : List ℕ} {r : Opening} → Begun file session r session′ → numberOf r ≡ 0
+  begun : {session session′ : List ℕ} {number states : ℕ} → Begins file session number states session′ → number ≡ 0
       → Served file [] [] session′
   taken : {u z : Word} {session out session′ out′ : List ℕ} {a number count : ℕ} → Served file u z session
       → Stepped file session a out number count session′ out′ → number ≡ 0

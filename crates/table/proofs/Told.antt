@@ -1,14 +1,17 @@
 -- What `check` told, and that it, `class_of` and `first_row` can tell one thing only. Assumes nothing.
-use mathlib.Core.Path.{_≡_, refl}
+use mathlib.Core.Path.{_≡_, refl, sym, _∙_}
+use mathlib.Core.Bool.{Bool, true, false}
 use mathlib.Core.Logic.{_⊎_, inl, inr}
 use mathlib.Core.List.{List}
 use Prim.Native.Nat.{ℕ, _-_, _<_}
 use native.Mathlib.Nat.{eq-zero-or-pos}
 use native.Mathlib.Omega.{arith}
+use lib.Dec.{eqb}
+use borrow.Author.Tests.{eqb-true, eqb-false}
 use mathlib.Mathlib.Logic.Function.Defs.{LeftInverse·injective}
 use Rattle.meaning.specs.Table.{Class as Kind, unused, call, return, internal}
 use Rattle.table.specs.Good.{first, Good}
-use Rattle.table.specs.Calls.{Checked, meant, FirstRow}
+use Rattle.table.specs.Calls.{numberOf, Judged, Checked, meant, FirstRow}
 use Rattle.table.specs.declared.Verdict.{Verdict}
 use Rattle.table.specs.declared.Verdict.the-variants.{Taken, BadTable}
 use Rattle.table.specs.declared.read.Class.{Class}
@@ -22,12 +25,24 @@ pub told-bad : (file : List ℕ) → (Good first file → ⊥) → Checked file 
 told-bad file f =
     record { good = (λ e. absurd (omega arith), λ g. absurd (f g)); bad = (λ e. f, λ h. refl) }
 
--- two answers that meet the contract of `check` on one file are the same
+-- two numbers that meet the promise of `check` on one file are the same, and so are two answers
+pub judged-unique : {file : List ℕ} {m n : ℕ} → Judged file m → Judged file n → m ≡ n
+judged-unique {file} {m} {n} a b = go (eqb m 0) refl
+  where
+    go : (t : Bool) → eqb m 0 ≡ t → m ≡ n
+    go true e = let z = eqb-true m 0 e in z ∙ sym (b .good .1 (a .good .0 z))
+    go false e =
+        let bad : Good first file → ⊥ = λ g. eqb-false m 0 e (a .good .1 g) in
+        a .bad .1 bad ∙ sym (b .bad .1 bad)
+
 pub checked-unique : (file : List ℕ) (r q : Verdict) → Checked file r → Checked file q → r ≡ q
-checked-unique file Taken Taken c d = refl
-checked-unique file Taken BadTable c d = let e = d .good .1 (c .good .0 refl) in absurd (omega arith)
-checked-unique file BadTable Taken c d = let e = c .good .1 (d .good .0 refl) in absurd (omega arith)
-checked-unique file BadTable BadTable c d = refl
+checked-unique file r q c d = one r q (judged-unique c d)
+  where
+    one : (r q : Verdict) → numberOf r ≡ numberOf q → r ≡ q
+    one Taken Taken e = refl
+    one Taken BadTable e = absurd (omega arith)
+    one BadTable Taken e = absurd (omega arith)
+    one BadTable BadTable e = refl
 
 -- so are two answers of `class_of`,
 pub meant-unique : (r q : Class) → meant r ≡ meant q → r ≡ q

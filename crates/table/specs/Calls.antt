@@ -18,9 +18,12 @@ numberOf Taken = 0
 numberOf BadTable = 1
 
 -- "BadTable: the file breaks a rule above"
-pub record Checked (file : List ℕ) (r : Verdict) : Type 0 where
-  pub good : (numberOf r ≡ 0) ↔ Good first file
-  pub bad : (numberOf r ≡ 1) ↔ (Good first file → ⊥)
+pub record Judged (file : List ℕ) (number : ℕ) : Type 0 where
+  pub good : (number ≡ 0) ↔ Good first file
+  pub bad : (number ≡ 1) ↔ (Good first file → ⊥)
+
+abbrev pub Checked : List ℕ → Verdict → Type 0
+Checked file r = Judged file (numberOf r)
 
 -- the class that a variant stands for
 abbrev pub meant : Class → Kind

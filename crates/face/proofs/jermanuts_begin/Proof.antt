@@ -15,7 +15,9 @@ opening-number-requires c κs = search needs
 
 returns : tie.Need-returns
 returns c =
-    said-begun _ (c .opening-number .ensures) (c .before .states-of .ensures) (c .before .before .begin .ensures)
+    let begun = c .before .before in
+    said-begun (begun .begin .result) (c .opening-number .ensures) (c .before .states-of .ensures)
+    (begun .begin .ensures)
 
 pub jermanuts-begin-spec : {M : Type 1} → statement M
 jermanuts-begin-spec = tie.close (tie.spec begin-requires states-of-requires opening-number-requires returns)

@@ -16,10 +16,14 @@ enum-told-2 : tie.Need-enum-told-2
 enum-told-2 c = search needs
 
 returns : tie.Need-returns
-returns c = said-checked _ (sym (ap numberOf (c .enum-told .given .1))) (c .before .before .check .ensures)
+returns c =
+    let checked = c .before .before in
+    said-checked (checked .check .result) (sym (ap numberOf (c .enum-told .given .1))) (checked .check .ensures)
 
 returns-2 : tie.Need-returns-2
-returns-2 c = said-checked _ (sym (ap numberOf (c .enum-told2 .given .1))) (c .before .before .check .ensures)
+returns-2 c =
+    let checked = c .before .before in
+    said-checked (checked .check .result) (sym (ap numberOf (c .enum-told2 .given .1))) (checked .check .ensures)
 
 pub jermanuts-check-spec : {M : Type 1} → statement M
 jermanuts-check-spec = tie.close (tie.spec check-requires enum-told enum-told-2 returns returns-2)

@@ -4,7 +4,8 @@ use mathlib.Core.List.{append-nil}
 use lib.ListN.{length}
 use native.Mathlib.Omega.{arith}
 use Rattle.engine.proofs.Gathering.{added}
-use Rattle.engine.proofs.Following.{fitting-only, word-stands}
+use Rattle.engine.proofs.Following.{fitting-only}
+use Rattle.table.proofs.Passed.{good-word}
 use borrow.Author.Needs.{needs}
 use Rattle.engine.proofs.growth.follow_call.Statement.{statement}
 use Rattle.engine.proofs.growth.follow_call.Tie as tie
@@ -41,7 +42,7 @@ number-requires c κs =
 row-word-requires : tie.Need-row-word-requires
 row-word-requires c κs =
     let pre = c .before .before .before .before .before .before .before .pre in
-    word-stands (pre .0 .0) _ (pre .0 .2)
+    good-word _ _ (pre .0 .0 .good) (pre .0 .2)
 
 sub-add : tie.Need-sub-add
 sub-add c = search needs

@@ -4,7 +4,8 @@ use mathlib.Core.List.{_++_, append-nil}
 use lib.ListN.{length, length-append}
 use native.Mathlib.Omega.{arith}
 use Rattle.engine.proofs.Gathering.{added}
-use Rattle.engine.proofs.Following.{fitting-only, word-stands, piece-stands}
+use Rattle.engine.proofs.Following.{fitting-only, piece-stands}
+use Rattle.table.proofs.Passed.{good-word}
 use borrow.Author.Needs.{needs}
 use Rattle.engine.proofs.growth.follow_internal.Statement.{statement}
 use Rattle.engine.proofs.growth.follow_internal.Tie as tie
@@ -21,7 +22,7 @@ piece-requires : tie.Need-piece-requires
 piece-requires c κs = let pre = c .before .before .before .pre in piece-stands (pre .0 .0) _ (pre .0 .1)
 
 row-word-requires : tie.Need-row-word-requires
-row-word-requires c κs = let pre = c .before .before .before .before .pre in word-stands (pre .0 .0) _ (pre .0 .2)
+row-word-requires c κs = let pre = c .before .before .before .before .pre in good-word _ _ (pre .0 .0 .good) (pre .0 .2)
 
 sub-add : tie.Need-sub-add
 sub-add c = search needs

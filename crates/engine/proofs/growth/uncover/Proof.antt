@@ -5,7 +5,8 @@ use lib.ListN.{length, length-append}
 use native.Mathlib.Omega.{arith}
 use Rattle.engine.specs.Growing.{Fitting, lowered, uncovered}
 use Rattle.engine.proofs.Gathering.{added, gathers-none, gathers-as, fitting-as}
-use Rattle.engine.proofs.Following.{fitting-only, word-stands, piece-stands, uncovered-not, uncovered-is}
+use Rattle.engine.proofs.Following.{fitting-only, piece-stands, uncovered-not, uncovered-is}
+use Rattle.table.proofs.Passed.{good-word}
 use borrow.Author.Needs.{needs}
 use Rattle.engine.proofs.growth.uncover.Statement.{statement}
 use Rattle.engine.proofs.growth.uncover.Tie as tie
@@ -55,7 +56,7 @@ piece-requires-2 c κs =
 row-word-requires : tie.Need-row-word-requires
 row-word-requires c κs =
     let pre = c .before .before .before .before .before .before .before .before .pre in
-    word-stands (pre .0 .0) _ (pre .0 .2)
+    good-word _ _ (pre .0 .0 .good) (pre .0 .2)
 
 add-requires : tie.Need-add-requires
 add-requires c κs =

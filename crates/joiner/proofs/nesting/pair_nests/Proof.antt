@@ -2,7 +2,8 @@
 use mathlib.Core.Path.{refl, sym, ap, _∙_}
 use native.Mathlib.Omega.{arith}
 use Rattle.table.specs.Calls.{meant}
-use Rattle.joiner.proofs.ByRow.{word-stands, word-short, opens-few, pair-apart, pair-other, pair-closes}
+use Rattle.joiner.proofs.ByRow.{word-short, opens-few, pair-apart, pair-other, pair-closes}
+use Rattle.table.proofs.Passed.{good-word}
 use borrow.Author.Needs.{needs}
 use Rattle.joiner.proofs.nesting.pair_nests.Statement.{statement}
 use Rattle.joiner.proofs.nesting.pair_nests.Tie as tie
@@ -33,7 +34,7 @@ enum-told-3 c = search needs
 row-word-requires : tie.Need-row-word-requires
 row-word-requires c κs =
     let pre = c .before .before .before .before .before .before .before .before .pre in
-    word-stands (pre .0 .hops) _ (pre .1)
+    good-word _ _ (pre .0 .hops .first) (pre .1)
 
 closes-requires : tie.Need-closes-requires
 closes-requires c κs =

@@ -2,7 +2,8 @@
 use mathlib.Core.Path.{refl, sym, ap, _∙_}
 use native.Mathlib.Omega.{arith}
 use Rattle.table.specs.Calls.{meant}
-use Rattle.joiner.proofs.ByRow.{word-stands, word-short, none-few, row-other, row-call, row-inner}
+use Rattle.joiner.proofs.ByRow.{word-short, none-few, row-other, row-call, row-inner}
+use Rattle.table.proofs.Passed.{good-word}
 use borrow.Author.Needs.{needs}
 use Rattle.joiner.proofs.nesting.row_nests.Statement.{statement}
 use Rattle.joiner.proofs.nesting.row_nests.Tie as tie
@@ -10,7 +11,7 @@ use Rattle.joiner.proofs.nesting.row_nests.Tie as tie
 row-word-requires : tie.Need-row-word-requires
 row-word-requires c κs =
     let pre = c .before .before .pre in
-    word-stands (pre .0) _ (pre .1)
+    good-word _ _ (pre .0 .first) (pre .1)
 
 row-class-requires : tie.Need-row-class-requires
 row-class-requires c κs = search needs

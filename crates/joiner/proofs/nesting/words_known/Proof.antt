@@ -6,7 +6,8 @@ use Rattle.words.specs.Lists.{Exact}
 use Rattle.words.proofs.Exact.{yes-exact, no-exact, denied, granted}
 use Rattle.table.specs.File.{rowAt, tableOf}
 use Rattle.joiner.specs.Nesting.{Known}
-use Rattle.joiner.proofs.ByRow.{row-among, rows-each, word-stands}
+use Rattle.joiner.proofs.ByRow.{row-among, rows-each}
+use Rattle.table.proofs.Passed.{good-word}
 use borrow.Author.Needs.{needs}
 use Rattle.joiner.proofs.nesting.words_known.Statement.{statement}
 use Rattle.joiner.proofs.nesting.words_known.Tie as tie
@@ -25,7 +26,7 @@ loop-holds c = (omega arith, λ m l. absurd (omega arith))
 
 row-word-requires : tie.Need-row-word-requires Inv-loop μ-loop
 row-word-requires c κs =
-    word-stands (c .before .before .before .before .before .pre) _ (omega arith)
+    good-word _ _ (c .before .before .before .before .before .pre .first) (omega arith)
 
 all-known-requires : tie.Need-all-known-requires Inv-loop μ-loop
 all-known-requires c κs = search needs

@@ -4,22 +4,23 @@ use native.Mathlib.Omega.{arith}
 use lib.ListN.{length, take}
 use lib.Seq.{length-take-le}
 use borrow.Author.Needs.{needs}
-use Rattle.lines.proofs.Lined.{said-finished, rest-within, ending-room}
+use Rattle.engine.proofs.Telling.{said-finished}
+use Rattle.lines.proofs.Lined.{rest-within, ending-room}
 use Rattle.lines.proofs.telling.put_end.Statement.{statement}
 use Rattle.lines.proofs.telling.put_end.Tie as tie
 
 finish-requires : tie.Need-finish-requires
 finish-requires c κs = search needs
 
-of-ending-requires : tie.Need-of-ending-requires
-of-ending-requires c κs = search needs
+said-by-finish-requires : tie.Need-said-by-finish-requires
+said-by-finish-requires c κs = search needs
 
 slice-reshare-prefix-put-ending : tie.Need-slice-reshare-prefix-put-ending
 slice-reshare-prefix-put-ending c =
     let heard = c .before in
     let ended = heard .before .before .before in
     rest-within _ _
-    (said-finished (ended .finish .result) _ _ (heard .of-ending .ensures .0) (heard .of-ending .ensures .1)
+    (said-finished (ended .finish .result) (heard .said-by-finish .ensures .0) (heard .said-by-finish .ensures .1)
     (ended .finish .ensures))
 
 slice-aggregate-put-ending : tie.Need-slice-aggregate-put-ending
@@ -30,7 +31,7 @@ put-ending-requires c κs =
     let heard = c .before .before in
     let ended = heard .before .before .before in
     let start = ended .before .before .before .before .before in
-    let rest = take (heard .of-ending .result .count) (ended .finish .last .1 .1 .0) in
+    let rest = take (heard .said-by-finish .result .count) (ended .finish .last .1 .1 .0) in
     let long = slice-aggregate-put-ending c in
     ending-room _ rest (length (start .args .out .now)) (omega arith)
     (omega (arith, long, slice-reshare-prefix-put-ending (c .before))) _ _ (omega arith)
@@ -47,10 +48,10 @@ returns c =
     let heard = put .before .before .before in
     let ended = heard .before .before .before in
     record {
-      number = heard .of-ending .result .number;
-      count = heard .of-ending .result .count;
+      number = heard .said-by-finish .result .number;
+      count = heard .said-by-finish .result .count;
       finished =
-          said-finished (ended .finish .result) _ _ (heard .of-ending .ensures .0) (heard .of-ending .ensures .1)
+          said-finished (ended .finish .result) (heard .said-by-finish .ensures .0) (heard .said-by-finish .ensures .1)
           (ended .finish .ensures);
       put = put .put-ending .ensures;
     }
@@ -60,7 +61,7 @@ put-end-spec =
     tie.close
     (tie.spec
     finish-requires
-    of-ending-requires
+    said-by-finish-requires
     slice-reshare-prefix-put-ending
     slice-aggregate-put-ending
     put-ending-requires

@@ -6,15 +6,16 @@ use lib.ListN.{length, take}
 use lib.Seq.{length-take-le}
 use borrow.Author.Needs.{needs}
 use borrow.Author.Tests.{eq-eqb, eqb-true}
-use Rattle.lines.proofs.Lined.{said-stepped, sent-within, line-most, line-room}
+use Rattle.engine.proofs.Telling.{said-stepped}
+use Rattle.lines.proofs.Lined.{sent-within, line-most, line-room}
 use Rattle.lines.proofs.telling.put_symbol.Statement.{statement}
 use Rattle.lines.proofs.telling.put_symbol.Tie as tie
 
 step-in-requires : tie.Need-step-in-requires
 step-in-requires c κs = search needs
 
-of-answer-requires : tie.Need-of-answer-requires
-of-answer-requires c κs = search needs
+said-by-step-requires : tie.Need-said-by-step-requires
+said-by-step-requires c κs = search needs
 
 depth-requires : tie.Need-depth-requires
 depth-requires c κs = search needs
@@ -24,7 +25,7 @@ slice-reshare-prefix-put-line c =
     let heard = c .before .before .before in
     let stepped = heard .before .before .before in
     sent-within _ _
-    (said-stepped (stepped .step-in .result) _ _ (heard .of-answer .ensures .0) (heard .of-answer .ensures .1)
+    (said-stepped (stepped .step-in .result) (heard .said-by-step .ensures .0) (heard .said-by-step .ensures .1)
     (stepped .step-in .ensures))
 
 slice-aggregate-put-line : tie.Need-slice-aggregate-put-line
@@ -35,7 +36,7 @@ put-line-requires c κs =
     let heard = c .before .before .before .before in
     let stepped = heard .before .before .before in
     let start = stepped .before .before .before .before .before .before .before in
-    let sent = take (heard .of-answer .result .count) (stepped .step-in .last .1 .1 .1 .0) in
+    let sent = take (heard .said-by-step .result .count) (stepped .step-in .last .1 .1 .1 .0) in
     let long = slice-aggregate-put-line c in
     line-room _ _ _ _ sent (length (start .args .out .now)) (omega arith) (omega arith) (omega arith) (omega arith)
     (omega (arith, long, slice-reshare-prefix-put-line (c .before))) _ _ (omega arith)
@@ -53,20 +54,20 @@ returns c =
     let stepped = heard .before .before .before in
     let start = stepped .before .before .before .before .before .before .before in
     let args = start .args in
-    let sent = take (heard .of-answer .result .count) (stepped .step-in .last .1 .1 .1 .0) in
+    let sent = take (heard .said-by-step .result .count) (stepped .step-in .last .1 .1 .1 .0) in
     let long = slice-aggregate-put-line (put .before) in
     let depth = put .before .before .before .depth .result in
     let few : length sent ≤ length (args .out .now)
     = omega (arith, long, slice-reshare-prefix-put-line (put .before .before)) in
     let most =
-    line-most (args .place) (args .symbol) (heard .of-answer .result .number) depth sent (length (args .out .now))
+    line-most (args .place) (args .symbol) (heard .said-by-step .result .number) depth sent (length (args .out .now))
     (omega arith) (omega arith) (omega arith) (omega arith) few
     in
     record {
-      number = heard .of-answer .result .number;
-      count = heard .of-answer .result .count;
+      number = heard .said-by-step .result .number;
+      count = heard .said-by-step .result .count;
       stepped =
-          said-stepped (stepped .step-in .result) _ _ (heard .of-answer .ensures .0) (heard .of-answer .ensures .1)
+          said-stepped (stepped .step-in .result) (heard .said-by-step .ensures .0) (heard .said-by-step .ensures .1)
           (stepped .step-in .ensures);
       taken = (λ e. eq-eqb _ _ e, λ e. eqb-true _ _ e);
       short = omega (arith, put .put-line .ensures .next, most);
@@ -78,7 +79,7 @@ put-symbol-spec =
     tie.close
     (tie.spec
     step-in-requires
-    of-answer-requires
+    said-by-step-requires
     depth-requires
     slice-reshare-prefix-put-line
     slice-aggregate-put-line

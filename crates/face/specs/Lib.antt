@@ -1,2 +1,0 @@
--- What the calls of the face promise, with numbers for answers.
-pub mod Calls
