@@ -113,7 +113,7 @@ fn words_known(first: &[u8], second: &[u8]) -> bool
 }
 
 // The class of a row's symbol.
-fn row_class(file: &[u8], i: usize) -> Class
+pub fn row_class(file: &[u8], i: usize) -> Class
     requires { ⌜ (Good first (now file)) × (Bytes (now file)) × (i < rowCount (now file)) ⌝ }
     ensures { λ r. ⌜ meant r ≡ tableOf (now (file .entry)) .class (rowAt (now (file .entry)) i .symbol) ⌝ }
 {

@@ -6,4 +6,5 @@ pub mod GoodFile
 pub mod FileBytes
 pub mod JoinedFile
 pub mod Promised
+pub mod Told
 pub mod Worked

@@ -9,14 +9,15 @@ use lib.Dec.{eqb}
 use lib.ListN.{length, drop, length-append}
 use borrow.Author.Tests.{eqb-true, eqb-false}
 use Rattle.words.specs.Words.{Word}
+use Rattle.words.specs.Calls.{Room}
 use Rattle.words.proofs.Exact.{exact-same}
+use Rattle.words.proofs.Puts.{appended-unique}
 use Rattle.stepping.specs.Promises.{Stepped, sendsOn, Finished, restOn}
 use Rattle.stepping.proofs.Told.{stepped-unique, finished-unique}
 use Rattle.lines.specs.Text.{line, ending}
-use Rattle.lines.specs.Calls.{Room, Told, EndTold}
+use Rattle.lines.specs.Calls.{Told, EndTold}
 use Rattle.lines.specs.declared.telling.Tried.{Tried}
 use Rattle.lines.proofs.Short.{line-short, ending-short}
-use Rattle.lines.proofs.Puts.{appended-unique}
 
 -- what was written stands in the output
 within : (number count : ℕ) (w out out′ : List ℕ) → ((number ≡ 0 → ⊥) → count ≡ 0) → (number ≡ 0 → count ≡ length w)

@@ -1,24 +1,14 @@
--- What the functions that put text ask and leave.
+-- What the functions that put lines ask and leave.
 use mathlib.Core.Path.{_≡_}
-use mathlib.Core.List.{List, _++_}
+use mathlib.Core.List.{List}
 use Prim.Native.Nat.{ℕ, _+_, _*_, _≤_}
-use lib.ListN.{length, take, drop}
+use lib.ListN.{length, take}
 use Rattle.words.specs.Lists.{Exact}
-use Rattle.words.specs.Words.{Word}
+use Rattle.words.specs.Calls.{Appended}
 use Rattle.session.specs.Bytes.{sessionOf}
 use Rattle.stepping.specs.Promises.{Stepped, Finished}
 use Rattle.lines.specs.Text.{line, ending}
 use Rattle.lines.specs.declared.telling.Tried.{Tried}
-
--- a text has room for `w` from the place `at` on
-pub record Room (text : List ℕ) (at : ℕ) (w : Word) : Type 0 where
-  pub fits : at + length w ≤ length text
-
--- `w` was written from the place `at` on, the place after it is `r`, and everything else is as it was
-pub record Appended (text : List ℕ) (at : ℕ) (w : Word) (r : ℕ) (text′ : List ℕ) : Type 0 where
-  pub next : r ≡ at + length w
-  pub within : r ≤ length text
-  pub is : text′ ≡ take at text ++ w ++ drop r text
 
 -- a symbol was tried, and its line put: "place from 1, symbol, number given back, depth after, bytes sent"; the line
 -- has at most 52 bytes, and two for each byte of the output

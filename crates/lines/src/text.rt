@@ -1,27 +1,12 @@
 // Numbers, bytes in hex and whole lines. Each asks that its text has room for what it puts.
+use words::put_byte;
+use words::put_bytes;
 ghost use mathlib.Core.Path.{_≡_};
 ghost use mathlib.Core.List.{[], _∷_};
 ghost use Prim.Native.Nat.{_<_};
 ghost use Rattle.io.specs.Digits.{glyph as Digits·glyph};
+ghost use Rattle.words.specs.Calls.{Room, Appended};
 ghost use Rattle.lines.specs.Text.{decimal, hex, hexOrDash, field, lastField, line, ending, noTable};
-ghost use Rattle.lines.specs.Calls.{Room, Appended};
-
-fn put_byte(text: &mut [u8], at: usize, byte: u8) -> usize
-    requires { ⌜ Room (now text) at (byte ∷ []) ⌝ }
-    ensures { λ r. ⌜ Appended (now (text .entry)) at (byte ∷ []) r (now (text .exit)) ⌝ }
-{
-    text[at] = byte;
-    at + 1
-}
-
-// Bytes as they are.
-fn put_bytes(text: &mut [u8], at: usize, bytes: &[u8]) -> usize
-    requires { ⌜ Room (now text) at (now bytes) ⌝ }
-    ensures { λ r. ⌜ Appended (now (text .entry)) at (now (bytes .entry)) r (now (text .exit)) ⌝ }
-{
-    words::copy(text, at, bytes);
-    at + bytes.len()
-}
 
 fn put_decimal(text: &mut [u8], at: usize, n: u64) -> usize
     requires { ⌜ Room (now text) at (decimal n) ⌝ }

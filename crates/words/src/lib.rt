@@ -13,6 +13,8 @@ pub use byte_order::compare;
 pub use byte_order::same;
 pub use writing::clear;
 pub use writing::copy;
+pub use writing::put_byte;
+pub use writing::put_bytes;
 ghost use mathlib.Core.Path.{_≡_};
 ghost use Prim.Native.Nat.{_<_, max};
 

@@ -1,8 +1,10 @@
 // Writing a part of a slice, and nothing else of it.
 ghost use mathlib.Core.Path.{_≡_};
+ghost use mathlib.Core.List.{[], _∷_};
 ghost use Prim.Native.Nat.{_+_, _≤_};
 ghost use lib.ListN.{length, replicate};
 ghost use lib.Seq.{paste};
+ghost use Rattle.words.specs.Calls.{Room, Appended};
 
 // All of `part`, from a place on.
 pub fn copy(to: &mut [u8], at: usize, part: &[u8])
@@ -26,4 +28,22 @@ pub fn clear(to: &mut [u8], at: usize, many: usize)
         to[at + i] = 0;
         i += 1;
     }
+}
+
+// A byte, from a place on. Answers the place after it.
+pub fn put_byte(text: &mut [u8], at: usize, byte: u8) -> usize
+    requires { ⌜ Room (now text) at (byte ∷ []) ⌝ }
+    ensures { λ r. ⌜ Appended (now (text .entry)) at (byte ∷ []) r (now (text .exit)) ⌝ }
+{
+    text[at] = byte;
+    at + 1
+}
+
+// Bytes as they are. Answers the place after them.
+pub fn put_bytes(text: &mut [u8], at: usize, bytes: &[u8]) -> usize
+    requires { ⌜ Room (now text) at (now bytes) ⌝ }
+    ensures { λ r. ⌜ Appended (now (text .entry)) at (now (bytes .entry)) r (now (text .exit)) ⌝ }
+{
+    copy(text, at, bytes);
+    at + bytes.len()
 }

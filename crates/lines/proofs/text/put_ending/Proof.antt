@@ -2,7 +2,7 @@
 use mathlib.Core.List.{[], _∷_, _++_}
 use borrow.Author.Needs.{needs}
 use Rattle.lines.specs.Text.{field}
-use Rattle.lines.proofs.Puts.{room-front, room-behind, appended-next}
+use Rattle.words.proofs.Puts.{room-front, room-behind, appended-next}
 use Rattle.lines.proofs.text.put_ending.Statement.{statement}
 use Rattle.lines.proofs.text.put_ending.Tie as tie
 

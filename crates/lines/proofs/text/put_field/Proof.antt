@@ -1,7 +1,7 @@
 -- `lines::text::put_field` meets its contract. Assumes nothing.
 use mathlib.Core.List.{[], _∷_}
 use Rattle.lines.specs.Text.{decimal}
-use Rattle.lines.proofs.Puts.{room-front, room-behind, appended-next}
+use Rattle.words.proofs.Puts.{room-front, room-behind, appended-next}
 use borrow.Author.Needs.{needs}
 use Rattle.lines.proofs.text.put_field.Statement.{statement}
 use Rattle.lines.proofs.text.put_field.Tie as tie

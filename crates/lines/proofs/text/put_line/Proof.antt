@@ -1,5 +1,5 @@
 -- `lines::text::put_line` meets its contract: its fields are put one behind the other. Assumes nothing.
-use Rattle.lines.proofs.Puts.{room-front, room-behind, appended-next}
+use Rattle.words.proofs.Puts.{room-front, room-behind, appended-next}
 use Rattle.lines.specs.Text.{field}
 use borrow.Author.Needs.{needs}
 use Rattle.lines.proofs.text.put_line.Statement.{statement}

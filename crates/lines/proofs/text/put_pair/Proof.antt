@@ -1,5 +1,5 @@
 -- `lines::text::put_pair` meets its contract. Assumes nothing.
-use Rattle.lines.proofs.Puts.{appended-next}
+use Rattle.words.proofs.Puts.{appended-next}
 use borrow.Author.Needs.{needs}
 use Rattle.lines.proofs.text.put_pair.Statement.{statement}
 use Rattle.lines.proofs.text.put_pair.Tie as tie

@@ -4,9 +4,9 @@ use native.Mathlib.Omega.{arith}
 use lib.ListN.{length, take}
 use lib.Seq.{take-all}
 use Rattle.lines.specs.Text.{hex}
-use Rattle.lines.specs.Calls.{Appended}
+use Rattle.words.specs.Calls.{Appended}
 use Rattle.lines.proofs.Numerals.{hex-long, hex-first, hex-next}
-use Rattle.lines.proofs.Puts.{appended-none, appended-whole, appended-next}
+use Rattle.words.proofs.Puts.{appended-none, appended-whole, appended-next}
 use borrow.Author.Needs.{needs}
 use Rattle.lines.proofs.text.put_pairs.Statement.{statement}
 use Rattle.lines.proofs.text.put_pairs.Tie as tie

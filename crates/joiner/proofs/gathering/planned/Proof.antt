@@ -1,0 +1,93 @@
+-- `joiner::gathering::planned` meets its contract. Assumes nothing.
+use borrow.Author.Needs.{needs}
+use Rattle.joiner.proofs.gathering.planned.Statement.{statement}
+use Rattle.joiner.proofs.gathering.planned.Tie as tie
+
+row-class-requires : tie.Need-row-class-requires
+row-class-requires c κs = search needs
+
+enum-told : tie.Need-enum-told
+enum-told c = search needs
+
+enum-told-2 : tie.Need-enum-told-2
+enum-told-2 c = search needs
+
+call-goal-requires : tie.Need-call-goal-requires
+call-goal-requires c κs = search needs
+
+enum-told-3 : tie.Need-enum-told-3
+enum-told-3 c = search needs
+
+enum-told-4 : tie.Need-enum-told-4
+enum-told-4 c = search needs
+
+enum-told-5 : tie.Need-enum-told-5
+enum-told-5 c = search needs
+
+enum-told-6 : tie.Need-enum-told-6
+enum-told-6 c = search needs
+
+enum-told-7 : tie.Need-enum-told-7
+enum-told-7 c = search needs
+
+enum-told-8 : tie.Need-enum-told-8
+enum-told-8 c = search needs
+
+close-goal-requires : tie.Need-close-goal-requires
+close-goal-requires c κs = search needs
+
+returns : tie.Need-returns
+returns c = rw (← c .before .before .row-class .ensures, c .enum-told .given .1)
+
+returns-2 : tie.Need-returns-2
+returns-2 c =
+    let told = c .before in
+    rw (← told .before .before .row-class .ensures, told .enum-told2 .given .1, c .call-goal .ensures)
+
+returns-3 : tie.Need-returns-3
+returns-3 c =
+    let told = c .before .before in
+    rw (← told .before .before .row-class .ensures, told .enum-told3 .given .1, c .enum-told4 .given .1)
+
+returns-4 : tie.Need-returns-4
+returns-4 c =
+    let told = c .before .before in
+    rw (← told .before .before .row-class .ensures, told .enum-told3 .given .1, c .enum-told5 .given .1)
+
+returns-5 : tie.Need-returns-5
+returns-5 c =
+    let told = c .before .before in
+    rw (← told .before .before .row-class .ensures, told .enum-told6 .given .1, c .enum-told7 .given .1)
+
+returns-6 : tie.Need-returns-6
+returns-6 c =
+    let rows = c .before in
+    let told = rows .before .before in
+    rw (
+      ← told .before .before .row-class .ensures,
+      told .enum-told6 .given .1,
+      rows .enum-told8 .given .1,
+      c .close-goal .ensures,
+    )
+
+pub planned-spec : {M : Type 1} → statement M
+planned-spec =
+    tie.close
+    (tie.spec
+    row-class-requires
+    enum-told
+    enum-told-2
+    call-goal-requires
+    enum-told-3
+    enum-told-4
+    enum-told-5
+    enum-told-6
+    enum-told-7
+    enum-told-8
+    close-goal-requires
+    returns
+    returns-2
+    returns-3
+    returns-4
+    returns-5
+    returns-6)

@@ -1,0 +1,120 @@
+-- `joiner::gathering::return_row` meets its contract. Assumes nothing.
+use mathlib.Core.Path.{_≡_, sym, _∙_, ap}
+use mathlib.Core.List.{List, reverse}
+use Prim.Native.Nat.{ℕ, _+_, _-_, _<_, _≤_}
+use native.Mathlib.Omega.{arith}
+use lib.ListN.{length, getD, take, drop, length-take, length-drop}
+use Rattle.words.specs.Words.{Word}
+use Rattle.joiner.specs.Shelved.{wordAt, wordsOf}
+use Rattle.joiner.specs.Gathering.{closeGoal, foundBy, markOf}
+use Rattle.joiner.specs.declared.reading.Goal.{Goal}
+use Rattle.joiner.proofs.ShelfLaws.{gathers-none, gathers-as}
+use Rattle.joiner.proofs.Given.{suited-close}
+use Rattle.joiner.proofs.FromMarks.{key-long, return-other, return-same, laid}
+use borrow.Author.Needs.{needs}
+use Rattle.joiner.proofs.gathering.return_row.Statement.{statement}
+use Rattle.joiner.proofs.gathering.return_row.Tie as tie
+
+-- the key of the mark, how long it is, and its first byte
+abbrev key-of : tie.After-word → Word
+key-of c =
+    let a = c .before .before .before .args in
+    wordAt (a .keys .now) (a .edges .now) (a .turns .now) (a .i)
+
+long : (c : tie.After-word) → (0 < length (c .word .result .now)) × (length (c .word .result .now) ≤ 17)
+long c =
+    let pre = c .before .before .before .pre in
+    rw (c .word .ensures) (key-long (pre .1 .0) (pre .0 .0 .small) (pre .0 .1))
+
+left-long : (c : tie.After-word)
+    → let w : Word = c .word .result .now in
+    length (take (length w - 1) (drop 1 w)) ≤ 16
+left-long c = simp length-take (omega (arith, long c .1))
+
+head-is : (c : tie.After-wide) → c .wide .result ≡ getD (key-of (c .before .before)) 0 0
+head-is c = c .wide .ensures .0 ∙ ap (λ (w : Word). getD w 0 0) (c .before .before .word .ensures)
+
+word-requires : tie.Need-word-requires
+word-requires c κs = search needs
+
+shared-slice-read-wide : tie.Need-shared-slice-read-wide
+shared-slice-read-wide c = omega (arith, long (c .before) .0)
+
+wide-requires : tie.Need-wide-requires
+wide-requires c κs = search needs
+
+row-marker-requires : tie.Need-row-marker-requires
+row-marker-requires c κs = search needs
+
+returns : tie.Need-returns
+returns c =
+    let wide = c .before .before in
+    let a = wide .before .before .before .before .before .args in
+    gathers-as gathers-none
+    (return-other (a .first .now) (a .second .now) (a .x) (a .q) (markOf (key-of (wide .before .before)))
+    (λ e. omega (arith, head-is wide, c .before .row-marker .ensures, c .if1 .taken)))
+
+sub-left : tie.Need-sub-left
+sub-left c = omega (arith, long (c .before .before .before .before) .0)
+
+part-left-start : tie.Need-part-left-start
+part-left-start c = omega (arith, long (c .before .before .before .before) .0)
+
+part-left-end : tie.Need-part-left-end
+part-left-end c = search needs
+
+copy-requires : tie.Need-copy-requires
+copy-requires c κs = omega (arith, left-long (c .before .before .before .before .before .before))
+
+add-close-goal : tie.Need-add-close-goal
+add-close-goal c = search needs
+
+close-goal-requires : tie.Need-close-goal-requires
+close-goal-requires c κs = search needs
+
+read-row-requires : tie.Need-read-row-requires
+read-row-requires c κs =
+    let goal = c .before .before .before .before .before in
+    let key = goal .before .before .before .before .before .before .before .before in
+    let start = key .before .before .before in
+    let pre = start .pre in (
+      (pre .0 .0, left-long key),
+      (pre .1 .0 .numbered, (rw (goal .close-goal .ensures) (suited-close (pre .0 .0) (start .args .i + 1) _), pre .1 .1)),
+    )
+
+returns-2 : tie.Need-returns-2
+returns-2 c =
+    let goal = c .before .before .before .before .before .before in
+    let copied = goal .before in
+    let same = copied .before .before .before in
+    let wide = same .before .before in
+    let key = wide .before .before in
+    let start = key .before .before .before in
+    let a = start .args in
+    let pre = start .pre in
+    let marks = wordsOf (a .keys .now) (a .edges .now) (a .turns .now) (a .marks) in
+    let w = key-of key in
+    let left-is = ap (λ (w : Word). take (length w - 1) (drop 1 w)) (key .word .ensures) in
+    let stack-is = laid w (a .stack .now) left-is (copied .copy .ensures) in
+    gathers-as (c .read-row .ensures)
+    ((λ i. foundBy (a .first .now) (a .second .now) marks (goal .close-goal .ensures i) (a .x) (a .q) (stack-is i))
+    ∙ return-same (pre .1 .0) (a .x) (a .q) (pre .0 .1)
+    (omega (arith, head-is wide, same .before .row-marker .ensures, same .if1 .left)))
+
+pub return-row-spec : {M : Type 1} → statement M
+return-row-spec =
+    tie.close
+    (tie.spec
+    word-requires
+    shared-slice-read-wide
+    wide-requires
+    row-marker-requires
+    returns
+    sub-left
+    part-left-start
+    part-left-end
+    copy-requires
+    add-close-goal
+    close-goal-requires
+    read-row-requires
+    returns-2)

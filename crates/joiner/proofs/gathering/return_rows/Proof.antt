@@ -1,0 +1,54 @@
+-- `joiner::gathering::return_rows` meets its contract. Assumes nothing.
+use Prim.Native.Nat.{_-_, _≤_}
+use native.Mathlib.Omega.{arith}
+use Rattle.joiner.specs.Shelved.{wordAt}
+use Rattle.joiner.specs.Gathering.{markOf, givenFrom}
+use Rattle.joiner.proofs.Passing.{Passing, passing-start, passing-ready, passing-next, passing-end}
+use Rattle.joiner.proofs.FromMarks.{returns-all}
+use borrow.Author.Needs.{needs}
+use Rattle.joiner.proofs.gathering.return_rows.Statement.{statement}
+use Rattle.joiner.proofs.gathering.return_rows.Tie as tie
+
+abbrev Inv-loop : tie.InvT-loop
+Inv-loop first second x q stack₀ out₀ keys edges turns marks arena₀ starts₀ order₀ made₀ i₀ stack out arena starts order made i =
+    (i ≤ marks)
+    × Passing (λ i. givenFrom first second x q (markOf (wordAt keys edges turns i)))
+    arena₀ starts₀ order₀ made₀ i arena starts order made
+
+abbrev μ-loop : tie.MeasureT-loop
+μ-loop first second x q stack₀ out₀ keys edges turns marks arena₀ starts₀ order₀ made₀ i₀ stack out arena starts order made i =
+    marks - i
+
+loop-holds : tie.Need-loop-holds Inv-loop μ-loop
+loop-holds c = (omega arith, passing-start)
+
+return-row-requires : tie.Need-return-row-requires Inv-loop μ-loop
+return-row-requires c κs =
+    let in-loop = c .before .before .before .before .before in
+    let at-loop = in-loop .before in
+    let pre = at-loop .before .before .before .pre in
+    ((pre .0 .0, omega (arith, in-loop .loop-test .taken)), (pre .1 .0, passing-ready (at-loop .loop .inv .1) (pre .1 .1)))
+
+add-i : tie.Need-add-i Inv-loop μ-loop
+add-i c = search needs
+
+loop-less : tie.Need-loop-less Inv-loop μ-loop
+loop-less c = search needs
+
+loop-again : tie.Need-loop-again Inv-loop μ-loop
+loop-again c =
+    let in-loop = c .before .before .before .before .before .before in
+    (omega (arith, in-loop .loop-test .taken), passing-next (in-loop .before .loop .inv .1) (c .return-row .ensures))
+
+returns : tie.Need-returns Inv-loop μ-loop
+returns c =
+    let at-loop = c .before in
+    let start = at-loop .before .before .before in
+    let pre = start .pre in
+    passing-end (at-loop .loop .inv .1) (start .args .marks) (omega arith)
+    (returns-all (pre .1 .0) (start .args .x) (start .args .q) (pre .0 .1))
+
+pub return-rows-spec : {M : Type 1} → statement M
+return-rows-spec =
+    tie.close
+    (tie.spec Inv-loop μ-loop loop-holds return-row-requires add-i loop-less loop-again returns)

@@ -1,0 +1,489 @@
+-- The cycle of calls of `joiner::reading::branch` and `joiner::reading::read`: a branch reads what is left of the word,
+-- and a reading has a branch for each row of the word's first byte, so that the word gets shorter. Assumes nothing.
+use native.Mathlib.Omega.{arith}
+use mathlib.Core.Path.{_≡_, sym, ap}
+use mathlib.Core.List.{List, [], _∷_}
+use lib.ListN.{length, getD, take, drop}
+use lib.Seq.{length-take-le}
+use Rattle.words.specs.Words.{Word}
+use Rattle.words.proofs.Exact.{denied, granted}
+use Rattle.meaning.specs.Runs.{Config}
+use Rattle.meaning.specs.Joining.{taken}
+use Rattle.table.specs.File.{rowCount, rowStart, rowAt}
+use Rattle.table.specs.Calls.{meant}
+use Rattle.table.proofs.Symbols.{symbols-up}
+use Rattle.joiner.specs.Shelved.{wordsOf}
+use Rattle.joiner.specs.Reading.{configOf, Fits, Untouched, findingsOf}
+use Rattle.joiner.proofs.ShelfLaws.{gathers-none, gathers-as}
+use Rattle.joiner.proofs.Moves.{taken-none, moved, height-near, untouched, untouched-self, untouched-both}
+use Rattle.joiner.proofs.Moves.{untouched-config}
+use Rattle.joiner.proofs.Passing.{Passing, passing-ready, passing-next}
+use Rattle.joiner.proofs.Findings.{findings-end, findings-one, suited-end, suited-from, suited-row, by-class}
+use Rattle.joiner.proofs.Findings.{byRow, rows-start, rows-end, word-first}
+use borrow.Author.Needs.{needs}
+use Prim.Native.Nat.{ℕ, _+_, _-_, _*_, _<_, _≤_}
+use borrow.Fn.Kinds.{In}
+use borrow.Fn.PlainCycle.{Measures, is, falls, and}
+use Rattle.joiner.proofs.reading.branch.Reads as branch
+use Rattle.joiner.proofs.reading.branch.Kinds as branch-kinds
+use Rattle.joiner.proofs.reading.+branch+read.Lts-branch as branch-lts
+use Rattle.joiner.proofs.reading.read.Reads as read
+use Rattle.joiner.proofs.reading.read.Kinds as read-kinds
+use Rattle.joiner.proofs.reading.+branch+read.Lts-read as read-lts
+use Rattle.joiner.proofs.reading.append.Reads as append-reads
+use Rattle.joiner.proofs.reading.exchange.Reads as exchange-reads
+use Rattle.joiner.proofs.reading.fits.Reads as fits-reads
+use Rattle.joiner.proofs.reading.found.Reads as found-reads
+use Rattle.joiner.proofs.reading.height_after.Reads as height-after-reads
+use Rattle.table.proofs.class_of.Reads as class-of-reads
+use Rattle.table.proofs.first_row.Reads as first-row-reads
+use Rattle.table.proofs.row_count.Reads as row-count-reads
+use Rattle.table.proofs.row_marker.Reads as row-marker-reads
+use Rattle.table.proofs.row_symbol.Reads as row-symbol-reads
+use Rattle.table.proofs.row_to.Reads as row-to-reads
+use Rattle.words.proofs.wide.Reads as wide-reads
+use Rattle.joiner.proofs.reading.+branch+read.{statement}
+use Rattle.joiner.proofs.reading.+branch+read.Tie.{close}
+
+-- what is left of the word, twice: a branch stands between two readings
+abbrev μ-branch : Measures 10 branch-kinds.ps ℕ
+μ-branch κs a = 2 * length (a .1 .1 .1 .0 .now) + 1
+
+abbrev μ-read : Measures 10 read-kinds.ps ℕ
+μ-read κs a = 2 * length (a .1 .0 .now)
+
+-- what each is given at the measure t, and what a call of it asks below t
+abbrev branch-at : ℕ → In 10 branch-kinds.ps
+branch-at t = and 10 branch-kinds.ps (is 10 branch-kinds.ps μ-branch t) branch.Pre
+
+abbrev branch-below : ℕ → In 10 branch-kinds.ps
+branch-below t = and 10 branch-kinds.ps (falls 10 branch-kinds.ps _<_ μ-branch t) branch.Pre
+
+abbrev read-at : ℕ → In 10 read-kinds.ps
+read-at t = and 10 read-kinds.ps (is 10 read-kinds.ps μ-read t) read.Pre
+
+abbrev read-below : ℕ → In 10 read-kinds.ps
+read-below t = and 10 read-kinds.ps (falls 10 read-kinds.ps _<_ μ-read t) read.Pre
+
+-- what the callees ask and say, at the measure t
+abbrev branch-calls : ℕ → branch-lts.Claims
+branch-calls t = (
+  fits-reads.Asked,
+  fits-reads.Learnt,
+  row-marker-reads.Asked,
+  row-marker-reads.Learnt,
+  exchange-reads.Asked,
+  exchange-reads.Learnt,
+  append-reads.Asked,
+  append-reads.Learnt,
+  row-to-reads.Asked,
+  row-to-reads.Learnt,
+  height-after-reads.Asked,
+  height-after-reads.Learnt,
+  read-below t,
+  read.Post,
+)
+
+abbrev read-calls : ℕ → read-lts.Claims
+read-calls t = (
+  found-reads.Asked,
+  found-reads.Learnt,
+  class-of-reads.Asked,
+  class-of-reads.Learnt,
+  row-count-reads.Asked,
+  row-count-reads.Learnt,
+  first-row-reads.Asked,
+  first-row-reads.Learnt,
+  row-symbol-reads.Asked,
+  row-symbol-reads.Learnt,
+  wide-reads.Asked,
+  wide-reads.Learnt,
+  branch-below t,
+  branch.Post,
+)
+
+abbrev Inv-loop : read-lts.InvT-loop
+Inv-loop second word state stack₀ height out₀ long goal keys edges turns marks arena₀ starts₀ order₀ symbol rest class n
+    made₀ r₀ stack out arena starts order made r =
+    (r₀ ≤ r) × (r ≤ n) × Untouched stack₀ out₀ long stack out
+    × Passing (byRow second (wordsOf keys edges turns marks) goal symbol rest (configOf state stack₀ height out₀ long))
+    arena₀ starts₀ order₀ made₀ r arena starts order made
+
+abbrev μ-loop : read-lts.MeasureT-loop
+μ-loop second word state stack₀ height out₀ long goal keys edges turns marks arena₀ starts₀ order₀ symbol rest class n
+    made₀ r₀ stack out arena starts order made r =
+    n - r
+
+-- where it is known whether the row fits: the arguments, and the marks
+module _ (t : ℕ) (c : branch-lts.After-fits2 (branch-calls t) (branch-at t) branch.Post) where
+  abbrev branch-start : branch-lts.Start (branch-calls t) (branch-at t) branch.Post
+  branch-start = c .before .before .before .before
+
+  abbrev branch-marks : List Word
+  branch-marks =
+      let a = branch-start .args in
+      wordsOf (a .keys .now) (a .edges .now) (a .turns .now) (a .marks)
+
+-- where it fits, and the configuration that follows
+branch-fits : (t : ℕ) (c : branch-lts.Else1 (branch-calls t) (branch-at t) branch.Post)
+    → let a = branch-start t (c .before) .args in
+    Fits (meant (a .class)) (rowAt (a .second .now) (a .r)) (a .state) (a .stack .now) (a .height)
+branch-fits t c = granted (c .before .fits2 .ensures .exact) (c .if1 .left)
+
+branch-moved : (t : ℕ) (c : branch-lts.After-height-after (branch-calls t) (branch-at t) branch.Post)
+    → let append = c .before .before in
+    let exchange = append .before .before in
+    let a = branch-start t (exchange .before .before .before .before) .args in
+    taken (meant (a .class)) (rowAt (a .second .now) (a .r))
+    (configOf (a .state) (a .stack .now) (a .height) (a .out .now) (a .long))
+    ≡ configOf (c .before .row-to .result) (exchange .exchange .last .0) (c .height-after .result)
+    (append .append .last .1 .1 .0) (append .append .result)
+    ∷ []
+branch-moved t c =
+    let append = c .before .before in
+    let exchange = append .before .before in
+    moved (branch-fits t (exchange .before .before .before)) (exchange .exchange .ensures)
+    (exchange .before .row-marker .ensures) (c .before .row-to .ensures) (c .height-after .ensures)
+    (append .append .ensures)
+
+branch-fits-requires : (t : ℕ) → branch-lts.Need-fits-requires (branch-calls t) (branch-at t) branch.Post
+branch-fits-requires t c κs =
+    let pre = c .before .before .before .pre .1 .0 in
+    (pre .0 .good, pre .1, omega (arith, pre .0 .high))
+
+branch-returns : (t : ℕ) → branch-lts.Need-returns (branch-calls t) (branch-at t) branch.Post
+branch-returns t c =
+    let a = branch-start t (c .before) .args in
+    let told = c .before .fits2 .ensures in
+    let none = taken-none (a .out .now) (a .long) (told .within) (denied (told .exact) (c .if1 .taken)) in (
+      gathers-as gathers-none
+          (ap (findingsOf (a .second .now) (branch-marks t (c .before)) (a .goal) (a .rest .now)) (sym none)),
+      untouched-self,
+    )
+
+branch-row-marker-requires : (t : ℕ) → branch-lts.Need-row-marker-requires (branch-calls t) (branch-at t) branch.Post
+branch-row-marker-requires t c κs =
+    let pre = branch-start t (c .before .before) .pre .1 .0 in
+    (pre .0 .good, pre .1)
+
+branch-cast-exchange : (t : ℕ) → branch-lts.Need-cast-exchange (branch-calls t) (branch-at t) branch.Post
+branch-cast-exchange t c =
+    let known = c .before .before .before .before .before .before in
+    let small = known .shared-slice-known .given (rowStart (known .before .args .r) + 3) in
+    omega (arith, c .row-marker .ensures)
+
+branch-exchange-requires : (t : ℕ) → branch-lts.Need-exchange-requires (branch-calls t) (branch-at t) branch.Post
+branch-exchange-requires t c κs =
+    omega (arith, branch-start t (c .before .before .before) .pre .1 .0 .0 .high)
+
+branch-append-requires : (t : ℕ) → branch-lts.Need-append-requires (branch-calls t) (branch-at t) branch.Post
+branch-append-requires t c κs =
+    let pre = branch-start t (c .before .before .before .before .before) .pre .1 .0 in
+    (pre .0 .good, pre .1, omega (arith, pre .0 .room))
+
+branch-row-to-requires : (t : ℕ) → branch-lts.Need-row-to-requires (branch-calls t) (branch-at t) branch.Post
+branch-row-to-requires t c κs =
+    let pre = branch-start t (c .before .before .before .before .before .before) .pre .1 .0 in
+    (pre .0 .good, pre .1)
+
+branch-height-after-requires : (t : ℕ)
+    → branch-lts.Need-height-after-requires (branch-calls t) (branch-at t) branch.Post
+branch-height-after-requires t c κs =
+    let else = c .before .before .before .before .before .before in
+    (omega (arith, branch-start t (else .before) .pre .1 .0 .0 .high), λ e. branch-fits t else .top e .0)
+
+branch-read-requires : (t : ℕ) → branch-lts.Need-read-requires (branch-calls t) (branch-at t) branch.Post
+branch-read-requires t c κs =
+    let step = c .before .before .before .before .before in
+    let else = step .before .before .before .before .before .before .before in
+    let start = branch-start t (else .before) in
+    let a = start .args in
+    let pre = start .pre .1 in
+    let reads = pre .0 .0 in
+    let appended = step .before .before .append .ensures in
+    let near = height-near (meant (a .class)) (a .height) in (
+      omega (arith, start .pre .0),
+      (
+        record {
+          good = reads .good;
+          high = omega (arith, reads .high, step .height-after .ensures);
+          room = omega (arith, reads .room, appended .more, appended .short);
+        },
+        (
+          pre .1 .0,
+          (
+            suited-from (a .second .now) (branch-marks t (else .before)) (a .goal) (a .rest .now) (branch-moved t step)
+                (pre .1 .1 .0),
+            pre .1 .1 .1,
+          ),
+        ),
+      ),
+    )
+
+branch-exchange-requires-2 : (t : ℕ) → branch-lts.Need-exchange-requires-2 (branch-calls t) (branch-at t) branch.Post
+branch-exchange-requires-2 t c κs =
+    let step = c .before .before .before .before .before .before .before in
+    let else = step .before .before .before .before .before .before .before in
+    omega (arith, branch-start t (else .before) .pre .1 .0 .0 .high)
+
+branch-returns-2 : (t : ℕ) → branch-lts.Need-returns-2 (branch-calls t) (branch-at t) branch.Post
+branch-returns-2 t c =
+    let read = c .before .before in
+    let step = read .before .before .before .before .before .before in
+    let else = step .before .before .before .before .before .before .before in
+    let a = branch-start t (else .before) .args in
+    let marks = branch-marks t (else .before) in (
+      gathers-as (read .read .ensures .0)
+          (findings-one (a .second .now) marks (a .goal) (a .rest .now) (branch-moved t step)),
+      untouched (step .before .before .before .before .exchange .ensures) (step .before .before .append .ensures)
+          (read .read .ensures .1) (c .exchange2 .ensures),
+    )
+
+-- the arguments of a reading, the marks, where it starts from, and the word by its first byte
+module _ (t : ℕ)
+    (c : read-lts.After-shared-slice-known2 (read-calls t) (read-at t) read.Post Inv-loop μ-loop) where
+  abbrev read-start : read-lts.Start (read-calls t) (read-at t) read.Post Inv-loop μ-loop
+  read-start = c .before .before
+
+  abbrev read-marks : List Word
+  read-marks =
+      let a = read-start .args in
+      wordsOf (a .keys .now) (a .edges .now) (a .turns .now) (a .marks)
+
+  abbrev read-from : Config
+  read-from =
+      let a = read-start .args in
+      configOf (a .state) (a .stack .now) (a .height) (a .out .now) (a .long)
+
+  abbrev read-symbol : ℕ
+  read-symbol = getD (read-start .args .word .now) 0 0
+
+  abbrev read-rest : Word
+  read-rest = let w = read-start .args .word .now in take (length w - 1) (drop 1 w)
+
+-- in the loop the word has a first byte; a row there, and one that has the symbol
+module _ (t : ℕ) (c : read-lts.At-loop (read-calls t) (read-at t) read.Post Inv-loop μ-loop) where
+  abbrev loop-known : read-lts.After-shared-slice-known2 (read-calls t) (read-at t) read.Post Inv-loop μ-loop
+  loop-known = c .before .before .before .before .before .before .before
+
+  loop-word : read-start t loop-known .args .word .now ≡ read-symbol t loop-known ∷ read-rest t loop-known
+  loop-word =
+      word-first (read-start t loop-known .args .word .now)
+      (omega (arith, c .before .before .before .before .before .before .if1 .left))
+
+read-within : (t : ℕ) (c : read-lts.In-loop (read-calls t) (read-at t) read.Post Inv-loop μ-loop)
+    → c .before .loop .r < rowCount (read-start t (loop-known t (c .before)) .args .second .now)
+read-within t c = omega (arith, c .before .before .before .row-count .ensures)
+
+read-has : (t : ℕ) (c : read-lts.Else2 (read-calls t) (read-at t) read.Post Inv-loop μ-loop)
+    → let at-loop = c .before .before .before .before in
+    let known = loop-known t at-loop in
+    rowAt (read-start t known .args .second .now) (at-loop .loop .r) .symbol ≡ read-symbol t known
+read-has t c = omega (arith, c .before .wide .ensures, c .before .before .row-symbol .ensures)
+
+read-slice-aggregate-found : (t : ℕ)
+    → read-lts.Need-slice-aggregate-found (read-calls t) (read-at t) read.Post Inv-loop μ-loop
+read-slice-aggregate-found t c =
+    let start = read-start t (c .before .before .before .before .before .before) in
+    sym (length-take-le (start .args .height) (start .args .stack .now) (omega (arith, start .pre .1 .0 .high)))
+
+read-slice-aggregate-found-2 : (t : ℕ)
+    → read-lts.Need-slice-aggregate-found-2 (read-calls t) (read-at t) read.Post Inv-loop μ-loop
+read-slice-aggregate-found-2 t c =
+    let start = read-start t (c .before .before .before .before .before .before .before) in
+    sym (length-take-le (start .args .long) (start .args .out .now) (omega (arith, start .pre .1 .0 .room)))
+
+read-found-requires : (t : ℕ) → read-lts.Need-found-requires (read-calls t) (read-at t) read.Post Inv-loop μ-loop
+read-found-requires t c κs =
+    let end = c .before .before .before .before .before .before .before .before .before in
+    let known = end .before in
+    let start = read-start t known in
+    let pre = start .pre .1 .1 in
+    let a = start .args in (
+      pre .0,
+      (
+        suited-end (a .second .now) (read-marks t known) (a .goal) (a .word .now) (read-from t known)
+            (end .if1 .taken) (pre .1 .0),
+        pre .1 .1,
+      ),
+    )
+
+read-returns : (t : ℕ) → read-lts.Need-returns (read-calls t) (read-at t) read.Post Inv-loop μ-loop
+read-returns t c =
+    let end = c .before .before .before .before .before .before .before .before .before .before in
+    let known = end .before in
+    let a = read-start t known .args in (
+      gathers-as (c .found .ensures)
+          (findings-end (a .second .now) (read-marks t known) (a .goal) (a .word .now) (read-from t known)
+          (end .if1 .taken)),
+      untouched-self,
+    )
+
+read-shared-slice-read-symbol : (t : ℕ)
+    → read-lts.Need-shared-slice-read-symbol (read-calls t) (read-at t) read.Post Inv-loop μ-loop
+read-shared-slice-read-symbol t c = omega (arith, c .before .if1 .left)
+
+read-sub-rest : (t : ℕ) → read-lts.Need-sub-rest (read-calls t) (read-at t) read.Post Inv-loop μ-loop
+read-sub-rest t c = omega (arith, c .before .if1 .left)
+
+read-part-rest-start : (t : ℕ) → read-lts.Need-part-rest-start (read-calls t) (read-at t) read.Post Inv-loop μ-loop
+read-part-rest-start t c = omega (arith, c .before .if1 .left)
+
+read-part-rest-end : (t : ℕ) → read-lts.Need-part-rest-end (read-calls t) (read-at t) read.Post Inv-loop μ-loop
+read-part-rest-end t c = omega arith
+
+read-class-of-requires : (t : ℕ) → read-lts.Need-class-of-requires (read-calls t) (read-at t) read.Post Inv-loop μ-loop
+read-class-of-requires t c κs = read-start t (c .before .before .before) .pre .1 .0 .good
+
+read-row-count-requires : (t : ℕ)
+    → read-lts.Need-row-count-requires (read-calls t) (read-at t) read.Post Inv-loop μ-loop
+read-row-count-requires t c κs = read-start t (c .before .before .before .before) .pre .1 .0 .good
+
+read-first-row-requires : (t : ℕ)
+    → read-lts.Need-first-row-requires (read-calls t) (read-at t) read.Post Inv-loop μ-loop
+read-first-row-requires t c κs = read-start t (c .before .before .before .before .before) .pre .1 .0 .good
+
+read-loop-holds : (t : ℕ) → read-lts.Need-loop-holds (read-calls t) (read-at t) read.Post Inv-loop μ-loop
+read-loop-holds t c =
+    let known = c .before .before .before .before .before .before in
+    let a = read-start t known .args in
+    let first = c .first-row .ensures in (
+      omega arith,
+      omega (arith, first .within, c .before .row-count .ensures),
+      untouched-self,
+      rows-start (a .second .now) (read-marks t known) (a .goal) (read-symbol t known) (read-rest t known)
+          (read-from t known) first,
+    )
+
+read-row-symbol-requires : (t : ℕ)
+    → read-lts.Need-row-symbol-requires (read-calls t) (read-at t) read.Post Inv-loop μ-loop
+read-row-symbol-requires t c κs =
+    (read-start t (c .before .before .before .before .before .before .before .before) .pre .1 .0 .good, read-within t c)
+
+read-wide-requires : (t : ℕ) → read-lts.Need-wide-requires (read-calls t) (read-at t) read.Post Inv-loop μ-loop
+read-wide-requires t c κs = search needs
+
+read-returns-2 : (t : ℕ) → read-lts.Need-returns-2 (read-calls t) (read-at t) read.Post Inv-loop μ-loop
+read-returns-2 t c =
+    let at-loop = c .before .before .before .before in
+    let known = loop-known t at-loop in
+    let start = read-start t known in
+    let a = start .args in
+    let within = read-within t (c .before .before .before) in
+    let first = at-loop .before .first-row .ensures in (
+      rows-end (a .second .now) (read-marks t known) (a .goal) (read-symbol t known) (read-rest t known)
+          (read-from t known) (loop-word t at-loop) (at-loop .loop .inv .3) (omega (arith, within))
+          (λ k l m e.
+          omega (
+            arith,
+            first .onward (at-loop .loop .r) (omega arith) within,
+            symbols-up (a .second .now) (start .pre .1 .0 .good .rows) k (at-loop .loop .r) l m,
+            c .before .wide .ensures,
+            c .before .before .row-symbol .ensures,
+          )),
+      at-loop .loop .inv .2,
+    )
+
+read-branch-requires : (t : ℕ) → read-lts.Need-branch-requires (read-calls t) (read-at t) read.Post Inv-loop μ-loop
+read-branch-requires t c κs =
+    let else = c .before .before .before .before .before in
+    let at-loop = else .before .before .before .before in
+    let known = loop-known t at-loop in
+    let start = read-start t known in
+    let a = start .args in
+    let pre = start .pre .1 in
+    let word = loop-word t at-loop in
+    let long = ap length word in
+    let within = read-within t (else .before .before .before) in (
+      omega (arith, start .pre .0),
+      (
+        (
+          record {
+            good = pre .0 .good;
+            high = omega (arith, pre .0 .high);
+            room = omega (arith, pre .0 .room);
+          },
+          within,
+        ),
+        (
+          pre .1 .0,
+          (
+            suited-row (a .second .now) (read-marks t known) (a .goal) (read-symbol t known) (read-rest t known)
+                (read-from t known) word (at-loop .loop .r) within (at-loop .before .before .before .class-of .ensures)
+                (read-has t else) (untouched-config (a .state) (a .height) (at-loop .loop .inv .2)) (pre .1 .1 .0),
+            passing-ready (at-loop .loop .inv .3) (pre .1 .1 .1),
+          ),
+        ),
+      ),
+    )
+
+read-add-r : (t : ℕ) → read-lts.Need-add-r (read-calls t) (read-at t) read.Post Inv-loop μ-loop
+read-add-r t c = search needs
+
+read-loop-less : (t : ℕ) → read-lts.Need-loop-less (read-calls t) (read-at t) read.Post Inv-loop μ-loop
+read-loop-less t c = search needs
+
+read-loop-again : (t : ℕ) → read-lts.Need-loop-again (read-calls t) (read-at t) read.Post Inv-loop μ-loop
+read-loop-again t c =
+    let else = c .before .before .before .before .before .before in
+    let at-loop = else .before .before .before .before in
+    let known = loop-known t at-loop in
+    let a = read-start t known .args in (
+      omega arith,
+      omega arith,
+      untouched-both (at-loop .loop .inv .2) (c .branch .ensures .1),
+      passing-next (at-loop .loop .inv .3)
+          (gathers-as (c .branch .ensures .0)
+          (by-class (a .second .now) (read-marks t known) (a .goal) (read-symbol t known) (read-rest t known)
+          (read-from t known) (at-loop .loop .r) (at-loop .before .before .before .class-of .ensures) (read-has t else)
+          (untouched-config (a .state) (a .height) (at-loop .loop .inv .2)))),
+    )
+
+read-returns-3 : (t : ℕ) → read-lts.Need-returns-3 (read-calls t) (read-at t) read.Post Inv-loop μ-loop
+read-returns-3 t c =
+    let at-loop = c .before in
+    let known = loop-known t at-loop in
+    let a = read-start t known .args in (
+      rows-end (a .second .now) (read-marks t known) (a .goal) (read-symbol t known) (read-rest t known)
+          (read-from t known) (loop-word t at-loop) (at-loop .loop .inv .3)
+          (omega (arith, at-loop .before .before .row-count .ensures))
+          (λ k l m. absurd (omega (arith, at-loop .before .before .row-count .ensures))),
+      at-loop .loop .inv .2,
+    )
+
+pub +branch+read-spec : {M : Type 1} → statement M
++branch+read-spec =
+    close μ-branch μ-read
+    (λ t. branch-lts.spec (branch-calls t) (branch-at t) branch.Post
+    (branch-fits-requires t)
+    (branch-returns t)
+    (branch-row-marker-requires t)
+    (branch-cast-exchange t)
+    (branch-exchange-requires t)
+    (branch-append-requires t)
+    (branch-row-to-requires t)
+    (branch-height-after-requires t)
+    (branch-read-requires t)
+    (branch-exchange-requires-2 t)
+    (branch-returns-2 t))
+    (λ t. read-lts.spec (read-calls t) (read-at t) read.Post Inv-loop μ-loop
+    (read-slice-aggregate-found t)
+    (read-slice-aggregate-found-2 t)
+    (read-found-requires t)
+    (read-returns t)
+    (read-shared-slice-read-symbol t)
+    (read-sub-rest t)
+    (read-part-rest-start t)
+    (read-part-rest-end t)
+    (read-class-of-requires t)
+    (read-row-count-requires t)
+    (read-first-row-requires t)
+    (read-loop-holds t)
+    (read-row-symbol-requires t)
+    (read-wide-requires t)
+    (read-returns-2 t)
+    (read-branch-requires t)
+    (read-add-r t)
+    (read-loop-less t)
+    (read-loop-again t)
+    (read-returns-3 t))

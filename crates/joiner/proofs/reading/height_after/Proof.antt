@@ -1,0 +1,52 @@
+-- `joiner::reading::height_after` meets its contract. Assumes nothing.
+use mathlib.Core.Path.{ap}
+use native.Mathlib.Omega.{arith}
+use Rattle.table.specs.Calls.{meant}
+use borrow.Author.Needs.{needs}
+use Rattle.joiner.proofs.reading.height_after.Statement.{statement}
+use Rattle.joiner.proofs.reading.height_after.Tie as tie
+
+enum-told : tie.Need-enum-told
+enum-told c = search needs
+
+enum-told-2 : tie.Need-enum-told-2
+enum-told-2 c = search needs
+
+add-result : tie.Need-add-result
+add-result c = search needs
+
+enum-told-3 : tie.Need-enum-told-3
+enum-told-3 c = search needs
+
+sub-result : tie.Need-sub-result
+sub-result c = omega (arith, c .before .before .pre .1 (ap meant (c .enum-told3 .given .1)))
+
+enum-told-4 : tie.Need-enum-told-4
+enum-told-4 c = search needs
+
+returns : tie.Need-returns
+returns c = search needs
+
+returns-2 : tie.Need-returns-2
+returns-2 c = rw (c .enum-told2 .given .1)
+
+returns-3 : tie.Need-returns-3
+returns-3 c = rw (c .enum-told3 .given .1)
+
+returns-4 : tie.Need-returns-4
+returns-4 c = search needs
+
+pub height-after-spec : {M : Type 1} → statement M
+height-after-spec =
+    tie.close
+    (tie.spec
+    enum-told
+    enum-told-2
+    add-result
+    enum-told-3
+    sub-result
+    enum-told-4
+    returns
+    returns-2
+    returns-3
+    returns-4)
