@@ -20,11 +20,11 @@ use Rattle.meaning.proofs.Reading.{endings-exact}
 use Rattle.table.specs.File.{rowCount, rowAt, tableOf}
 use Rattle.table.specs.Calls.{FirstRow}
 use Rattle.table.proofs.Stands.{rows-of}
-use Rattle.joiner.specs.Shelved.{Gathers}
+use Rattle.shelf.specs.Shelved.{Gathers}
+use Rattle.shelf.specs.declared.Shelf.{Shelf}
+use Rattle.nesting.proofs.ByRow.{row-among}
 use Rattle.joiner.specs.Reading.{keysOf, Suited, findings, findingsOf}
 use Rattle.joiner.specs.declared.reading.Goal.{Goal}
-use Rattle.joiner.specs.declared.shelf.Shelf.{Shelf}
-use Rattle.joiner.proofs.ByRow.{row-among}
 use Rattle.joiner.proofs.Passing.{each-each, Passing, passing-start, passing-skip}
 
 -- what goes on by row `r` of the file, where it has the symbol

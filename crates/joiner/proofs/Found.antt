@@ -10,7 +10,7 @@ use Rattle.words.specs.Lists.{_among_, isEmpty}
 use Rattle.words.specs.Words.{Word}
 use Rattle.words.specs.Order.{rank}
 use Rattle.meaning.specs.Runs.{Config, config}
-use Rattle.joiner.specs.Shelved.{wordsOf, Place}
+use Rattle.shelf.specs.Shelved.{wordsOf, Place}
 use Rattle.joiner.specs.Reading.{leftNumber, keysOf, Suits, Suited, NumberOf}
 use Rattle.joiner.specs.declared.reading.Goal.{Goal}
 use Rattle.joiner.specs.declared.reading.Goal.the-variants.{Mark, Call, Close}

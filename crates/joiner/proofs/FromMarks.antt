@@ -20,14 +20,14 @@ use Rattle.meaning.specs.Joining.{Mark, mark, markKey, pushed, marks, number, s
 use Rattle.meaning.proofs.Reading.{run-level}
 use Rattle.meaning.proofs.Joined.{marks-out, steps, call-start}
 use Rattle.table.specs.File.{rowAt, tableOf}
-use Rattle.joiner.specs.Shelved.{wordAt, wordsOf, Held}
+use Rattle.shelf.specs.Shelved.{wordAt, wordsOf, Held}
+use Rattle.shelf.proofs.Lists.{rank-at}
+use Rattle.shelf.proofs.Laws.{shelved-none}
+use Rattle.shelf.proofs.Keys.{keys-kept, keys-rank}
+use Rattle.nesting.proofs.Levels.{level-small}
 use Rattle.joiner.specs.Gathering.{Small, Marked, closeGoal, foundBy, markOf, givenFrom, givenAt, pushedKeys}
 use Rattle.joiner.specs.declared.gathering.Wanted.{Wanted}
 use Rattle.joiner.specs.declared.gathering.Wanted.the-variants.{Marks, Rows}
-use Rattle.joiner.proofs.Levels.{level-small}
-use Rattle.joiner.proofs.ShelfLists.{rank-at}
-use Rattle.joiner.proofs.ShelfLaws.{shelved-none}
-use Rattle.joiner.proofs.ShelfKeys.{keys-kept, keys-rank}
 use Rattle.joiner.proofs.Passing.{each-each}
 use Rattle.joiner.proofs.Given.{map-each, rows-one, close-keys}
 

@@ -19,6 +19,8 @@ use Rattle.meaning.proofs.Reading.{endings-out, run-inside}
 use Rattle.meaning.proofs.Joined.{Joins, marks-in}
 use Rattle.table.specs.File.{rowCount, wordOf, rowAt, tableOf}
 use Rattle.table.proofs.Stands.{good-table, rows-of}
+use Rattle.shelf.proofs.Keys.{keys-rank}
+use Rattle.nesting.proofs.ByRow.{row-among}
 use Rattle.joiner.specs.Reading.{joinedKey, leftKey, leftNumber, keysOf, Suited, findings}
 use Rattle.joiner.specs.Gathering.{Small, At, callGoal, closeGoal, planOf, foundBy, givenAt, givenBy, given}
 use Rattle.joiner.specs.Gathering.{pushedKeys, joinedKeys}
@@ -27,8 +29,6 @@ use Rattle.joiner.specs.declared.gathering.Wanted.{Wanted}
 use Rattle.joiner.specs.declared.gathering.Wanted.the-variants.{Marks, Rows}
 use Rattle.joiner.specs.declared.gathering.Plan.{Plan}
 use Rattle.joiner.specs.declared.gathering.Plan.the-variants.{Skip, Read, FromMarks}
-use Rattle.joiner.proofs.ByRow.{row-among}
-use Rattle.joiner.proofs.ShelfKeys.{keys-rank}
 
 -- lists: nothing is made of any; a function after another
 

@@ -20,16 +20,16 @@ use Rattle.table.proofs.Stands.{good-table}
 use Rattle.joining.specs.Promises.{joinedFile, Joins}
 use Rattle.joining.proofs.Laid.{file-length}
 use Rattle.joining.proofs.Told.{joins-too-large, joins-no-room, joins-taken}
-use Rattle.joiner.specs.Shelved.{wordAt, wordsOf, kept, Held}
-use Rattle.joiner.specs.Written.{pairedFile, Laying}
-use Rattle.joiner.specs.declared.writing.Sizes.{Sizes}
+use Rattle.shelf.specs.Shelved.{wordAt, wordsOf, kept, Held}
+use Rattle.shelf.proofs.Lists.{kept-exact}
+use Rattle.shelf.proofs.Laws.{Outgrown}
+use Rattle.shelf.proofs.Keys.{keys-kept, outgrown-short}
+use Rattle.laying.specs.Written.{pairedFile, Laying}
+use Rattle.laying.specs.declared.Sizes.{Sizes}
+use Rattle.laying.proofs.Joined.{count-is, outgrown-rows, stood-keys, stood-words, Lays, lays-asked, lays-file}
 use Rattle.joiner.specs.Gathering.{pushedKeys, joinedKeys}
 use Rattle.joiner.specs.Hopping.{allRows, Both, Nested, Joinable, LongKey, Rowed}
-use Rattle.joiner.proofs.ShelfLists.{kept-exact}
-use Rattle.joiner.proofs.ShelfLaws.{Outgrown}
-use Rattle.joiner.proofs.ShelfKeys.{keys-kept, outgrown-rows, outgrown-short}
 use Rattle.joiner.proofs.FromMarks.{left-short}
-use Rattle.joiner.proofs.LaidJoined.{count-is, stood-keys, stood-words, Lays, lays-asked, lays-file}
 
 module _ {one two : List ℕ} {markers : ℕ} {arena starts order : List ℕ} {count used : ℕ}
     (r : Rowed one two markers arena starts order count used) where

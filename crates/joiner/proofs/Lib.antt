@@ -1,21 +1,8 @@
 -- What follows of the definitions in `specs/`, one family of facts a file, each building on those before it.
-pub mod Levels
-pub mod ByRow
-pub mod ShelfLists
-pub mod ShelfTurns
-pub mod ShelfRooms
-pub mod ShelfLaws
-pub mod ShelfKeys
-pub mod LaidNumbers
-pub mod LaidRows
-pub mod LaidSets
-pub mod LaidFile
-pub mod LaidJoined
 pub mod Moves
 pub mod Found
 pub mod Passing
 pub mod Findings
-pub mod JoinedKeys
 pub mod Given
 pub mod FromMarks
 pub mod Hopped

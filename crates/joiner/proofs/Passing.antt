@@ -8,9 +8,9 @@ use native.Mathlib.Omega.{arith}
 use Rattle.words.specs.Lists.{each, upTo}
 use Rattle.words.specs.Words.{Word}
 use Rattle.words.proofs.Lists.{each-append, below-or}
-use Rattle.joiner.specs.Shelved.{Ready, Gathers}
-use Rattle.joiner.specs.declared.shelf.Shelf.{Shelf}
-use Rattle.joiner.proofs.ShelfLaws.{gathers-none, gathers-as, gathers-both}
+use Rattle.shelf.specs.Shelved.{Ready, Gathers}
+use Rattle.shelf.specs.declared.Shelf.{Shelf}
+use Rattle.shelf.proofs.Laws.{gathers-none, gathers-as, gathers-both}
 
 -- what is made of each thing that is made
 pub each-each : {A B C : Type 0} (g : B → List C) (f : A → List B) (l : List A)

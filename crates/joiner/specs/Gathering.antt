@@ -10,8 +10,8 @@ use Rattle.meaning.specs.Table.{Class, unused, call, return, internal, Row, Tab
 use Rattle.meaning.specs.Runs.{config}
 use Rattle.meaning.specs.Joining.{pair, Mark as JoinedMark, mark, markKey, pushed, marks, rowsFrom, rowsOf}
 use Rattle.table.specs.File.{rowCount, wordOf, rowAt, tableOf}
-use Rattle.joiner.specs.Nesting.{Hops}
-use Rattle.joiner.specs.Shelved.{wordsOf}
+use Rattle.shelf.specs.Shelved.{wordsOf}
+use Rattle.nesting.specs.Nesting.{Hops}
 use Rattle.joiner.specs.Reading.{findings, Numbered}
 use Rattle.joiner.specs.declared.reading.Goal.{Goal}
 use Rattle.joiner.specs.declared.reading.Goal.the-variants.{Mark, Call, Close}

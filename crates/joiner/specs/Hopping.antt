@@ -10,10 +10,10 @@ use Rattle.meaning.specs.Nesting.{Nests}
 use Rattle.meaning.specs.Joining.{marks, rowsOf}
 use Rattle.meaning.specs.Sentences.{LongWord}
 use Rattle.table.specs.File.{tableOf}
-use Rattle.joiner.specs.Nesting.{Hops}
-use Rattle.joiner.specs.Shelved.{wordAt, Held}
+use Rattle.shelf.specs.Shelved.{wordAt, Held}
+use Rattle.nesting.specs.Nesting.{Hops}
+use Rattle.laying.specs.Written.{Pair}
 use Rattle.joiner.specs.Gathering.{Small, pushedKeys}
-use Rattle.joiner.specs.Written.{Pair}
 
 -- all joined rows, before equal ones count once
 abbrev pub allRows : Table → Table → List Row

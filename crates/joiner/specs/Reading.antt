@@ -12,7 +12,7 @@ use Rattle.meaning.specs.Runs.{Config, config}
 use Rattle.meaning.specs.Joining.{endings, mark, markKey}
 use Rattle.table.specs.File.{tableOf}
 use Rattle.table.specs.Good.{first, Good}
-use Rattle.joiner.specs.Shelved.{Standing}
+use Rattle.shelf.specs.Shelved.{Standing}
 use Rattle.joiner.specs.declared.reading.Goal.{Goal}
 use Rattle.joiner.specs.declared.reading.Goal.the-variants.{Mark, Call, Close}
 

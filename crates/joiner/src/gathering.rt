@@ -1,12 +1,12 @@
 // The marks and the rows of the joined table: each row of the first is read from each state of the second, and what it
 // gives is put on a shelf. The stack that a reading starts from stands in the lent room from its bottom.
-use crate::nesting::row_class;
 use crate::reading::Goal;
 use crate::reading::read;
-use crate::shelf::ROOM;
-use crate::shelf::Shelf;
-use crate::shelf::start;
-use crate::shelf::word;
+use nesting::row_class;
+use shelf::ROOM;
+use shelf::Shelf;
+use shelf::start;
+use shelf::word;
 use table::Class;
 use words::copy;
 use words::wide;
@@ -18,7 +18,7 @@ ghost use Rattle.meaning.specs.Table.{return};
 ghost use Rattle.meaning.specs.Joining.{readings, pair};
 ghost use Rattle.table.specs.File.{rowCount, rowAt, tableOf};
 ghost use Rattle.table.specs.Good.{first as edition, Good};
-ghost use Rattle.joiner.specs.Shelved.{wordAt, wordsOf, Shelved, Ready, Gathers};
+ghost use Rattle.shelf.specs.Shelved.{wordAt, wordsOf, Shelved, Ready, Gathers};
 ghost use Rattle.joiner.specs.Reading.{Suited, Numbered};
 ghost use Rattle.joiner.specs.Gathering.{Small, At, Marked, callGoal, closeGoal, planOf, foundBy};
 ghost use Rattle.joiner.specs.Gathering.{markOf, givenFrom, givenAt, givenBy, given, pushedKeys, joinedKeys};

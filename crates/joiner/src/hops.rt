@@ -1,19 +1,17 @@
 // Two tables become one: the tests in their order, each after the work that it needs. The output is written only once
 // all have passed.
 use crate::gathering;
-use crate::nesting::nests;
-use crate::shelf;
-use crate::shelf::ROOM;
-use crate::shelf::Shelf;
-use crate::writing;
-use crate::writing::Sizes;
+use laying::Sizes;
+use nesting::nests;
+use shelf::ROOM;
+use shelf::Shelf;
 use table::Verdict;
 ghost use Rattle.words.specs.Lists.{Exact};
 ghost use Rattle.words.specs.Words.{Bytes};
 ghost use Rattle.meaning.specs.Sentences.{LongWord};
 ghost use Rattle.table.specs.File.{tableOf};
 ghost use Rattle.table.specs.Good.{first as edition, Good};
-ghost use Rattle.joiner.specs.Shelved.{Standing};
+ghost use Rattle.shelf.specs.Shelved.{Standing};
 ghost use Rattle.joiner.specs.Hopping.{Both, Nested, LongKey, Marked, Rowed};
 ghost use Rattle.joiner.specs.Calls.{JoinedBy};
 
@@ -223,6 +221,6 @@ fn on_rows(
         rows: count,
         words,
     };
-    let count = writing::write(first, second, out, sizes, arena, starts, order);
+    let count = laying::write(first, second, out, sizes, arena, starts, order);
     Joining::Taken { count }
 }

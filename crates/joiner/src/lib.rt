@@ -1,12 +1,8 @@
-// Joining two hops: whether the words of the first table nest for the classes of the second, a shelf for the joined
-// rows, and the joined table's file. Nothing outside the lent rooms is read or written.
+// Joining two hops: the second table reads the words of the first, what its readings give is gathered on shelves, and
+// the joined table's file is written. Nothing outside the lent rooms is read or written.
 mod gathering;
 mod hops;
-mod nesting;
 mod reading;
-mod shelf;
-mod writing;
 
 pub use hops::Joining;
 pub use hops::join;
-pub use nesting::nests;

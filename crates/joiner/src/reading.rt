@@ -1,9 +1,9 @@
 // The second table reads a word of the first: every run over it from a state and a stack, and what each ending gives is
 // put on a shelf. The stack stands in the lent room from its bottom.
-use crate::shelf::ROOM;
-use crate::shelf::Shelf;
-use crate::shelf::place;
-use crate::shelf::put;
+use shelf::ROOM;
+use shelf::Shelf;
+use shelf::place;
+use shelf::put;
 use table::Class;
 use words::copy;
 use words::wide;
@@ -17,7 +17,7 @@ ghost use Rattle.meaning.specs.Joining.{taken, endings};
 ghost use Rattle.table.specs.File.{rowCount, wordOf, rowAt, tableOf};
 ghost use Rattle.table.specs.Good.{first, Good};
 ghost use Rattle.table.specs.Calls.{meant};
-ghost use Rattle.joiner.specs.Shelved.{wordsOf, Ready, Gathers};
+ghost use Rattle.shelf.specs.Shelved.{wordsOf, Ready, Gathers};
 ghost use Rattle.joiner.specs.Reading.{configOf, Tested, heightAfter, Exchanged, Appended, Untouched};
 ghost use Rattle.joiner.specs.Reading.{keysOf, Suited, findings, findingsOf, Reads, Numbered, NumberOf};
 

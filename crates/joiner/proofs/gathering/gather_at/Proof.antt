@@ -3,10 +3,10 @@ use mathlib.Core.Path.{_≡_, refl, sym, _∙_, ap}
 use native.Mathlib.Omega.{arith}
 use Rattle.meaning.specs.Table.{Class}
 use Rattle.table.specs.File.{rowAt, tableOf}
+use Rattle.shelf.proofs.Laws.{gathers-none, gathers-as}
 use Rattle.joiner.specs.Gathering.{planOf, givenAt}
 use Rattle.joiner.specs.declared.gathering.Wanted.{Wanted}
 use Rattle.joiner.specs.declared.gathering.Plan.{Plan}
-use Rattle.joiner.proofs.ShelfLaws.{gathers-none, gathers-as}
 use Rattle.joiner.proofs.Given.{plan-skip, plan-read, plan-marks}
 use Rattle.joiner.proofs.FromMarks.{marked-rows}
 use borrow.Author.Needs.{needs}

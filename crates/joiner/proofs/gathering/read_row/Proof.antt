@@ -6,11 +6,11 @@ use lib.ListN.{length, take}
 use Rattle.words.specs.Words.{Word}
 use Rattle.meaning.specs.Runs.{config}
 use Rattle.table.specs.File.{rowAt}
-use Rattle.joiner.specs.Shelved.{wordsOf}
-use Rattle.joiner.specs.Reading.{findings}
 use Rattle.table.proofs.Passed.{good-word}
-use Rattle.joiner.proofs.ByRow.{row-among}
-use Rattle.joiner.proofs.ShelfLaws.{gathers-as}
+use Rattle.shelf.specs.Shelved.{wordsOf}
+use Rattle.shelf.proofs.Laws.{gathers-as}
+use Rattle.nesting.proofs.ByRow.{row-among}
+use Rattle.joiner.specs.Reading.{findings}
 use Rattle.joiner.proofs.gathering.read_row.Statement.{statement}
 use Rattle.joiner.proofs.gathering.read_row.Tie as tie
 

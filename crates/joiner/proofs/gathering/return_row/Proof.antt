@@ -5,10 +5,10 @@ use Prim.Native.Nat.{ℕ, _+_, _-_, _<_, _≤_}
 use native.Mathlib.Omega.{arith}
 use lib.ListN.{length, getD, take, drop, length-take, length-drop}
 use Rattle.words.specs.Words.{Word}
-use Rattle.joiner.specs.Shelved.{wordAt, wordsOf}
+use Rattle.shelf.specs.Shelved.{wordAt, wordsOf}
+use Rattle.shelf.proofs.Laws.{gathers-none, gathers-as}
 use Rattle.joiner.specs.Gathering.{closeGoal, foundBy, markOf}
 use Rattle.joiner.specs.declared.reading.Goal.{Goal}
-use Rattle.joiner.proofs.ShelfLaws.{gathers-none, gathers-as}
 use Rattle.joiner.proofs.Given.{suited-close}
 use Rattle.joiner.proofs.FromMarks.{key-long, return-other, return-same, laid}
 use borrow.Author.Needs.{needs}

@@ -1,7 +1,7 @@
 -- `joiner::gathering::return_rows` meets its contract. Assumes nothing.
 use Prim.Native.Nat.{_-_, _≤_}
 use native.Mathlib.Omega.{arith}
-use Rattle.joiner.specs.Shelved.{wordAt}
+use Rattle.shelf.specs.Shelved.{wordAt}
 use Rattle.joiner.specs.Gathering.{markOf, givenFrom}
 use Rattle.joiner.proofs.Passing.{Passing, passing-start, passing-ready, passing-next, passing-end}
 use Rattle.joiner.proofs.FromMarks.{returns-all}

@@ -6,7 +6,7 @@ use lib.ListN.{length}
 use borrow.Author.Count.{below-more}
 use borrow.Author.Needs.{needs}
 use Rattle.words.proofs.Exact.{yes-exact, no-exact}
-use Rattle.joiner.specs.Shelved.{wordAt}
+use Rattle.shelf.specs.Shelved.{wordAt}
 use Rattle.joiner.proofs.hops.long_rows.Statement.{statement}
 use Rattle.joiner.proofs.hops.long_rows.Tie as tie
 

@@ -7,7 +7,7 @@ use borrow.Author.Count.{below-more}
 use Rattle.words.proofs.Exact.{yes-exact, no-exact}
 use Rattle.table.specs.File.{rowCount, wordOf, rowAt}
 use Rattle.table.proofs.Passed.{word-in}
-use Rattle.joiner.proofs.ByRow.{row-among, rows-each}
+use Rattle.nesting.proofs.ByRow.{row-among, rows-each}
 use borrow.Author.Needs.{needs}
 use Rattle.joiner.proofs.hops.long_words.Statement.{statement}
 use Rattle.joiner.proofs.hops.long_words.Tie as tie

@@ -3,7 +3,7 @@ use mathlib.Core.Path.{_≡_, refl, sym, _∙_}
 use mathlib.Core.Bool.{true, false, false≢true}
 use Prim.Native.Nat.{_-_, _*_}
 use native.Mathlib.Omega.{arith}
-use Rattle.joiner.specs.declared.writing.Sizes.{Sizes}
+use Rattle.laying.specs.declared.Sizes.{Sizes}
 use Rattle.joiner.specs.Hopping.{LongKey}
 use Rattle.joiner.proofs.Hopped.{hopped-used, hopped-long, hopped-words, hopped-no-room, hopped-laying}
 use Rattle.joiner.proofs.Hopped.{hopped-taken}

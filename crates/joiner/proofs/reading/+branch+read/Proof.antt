@@ -12,9 +12,9 @@ use Rattle.meaning.specs.Joining.{taken}
 use Rattle.table.specs.File.{rowCount, rowStart, rowAt}
 use Rattle.table.specs.Calls.{meant}
 use Rattle.table.proofs.Symbols.{symbols-up}
-use Rattle.joiner.specs.Shelved.{wordsOf}
+use Rattle.shelf.specs.Shelved.{wordsOf}
+use Rattle.shelf.proofs.Laws.{gathers-none, gathers-as}
 use Rattle.joiner.specs.Reading.{configOf, Fits, Untouched, findingsOf}
-use Rattle.joiner.proofs.ShelfLaws.{gathers-none, gathers-as}
 use Rattle.joiner.proofs.Moves.{taken-none, moved, height-near, untouched, untouched-self, untouched-both}
 use Rattle.joiner.proofs.Moves.{untouched-config}
 use Rattle.joiner.proofs.Passing.{Passing, passing-ready, passing-next}
@@ -24,6 +24,13 @@ use borrow.Author.Needs.{needs}
 use Prim.Native.Nat.{ℕ, _+_, _-_, _*_, _<_, _≤_}
 use borrow.Fn.Kinds.{In}
 use borrow.Fn.PlainCycle.{Measures, is, falls, and}
+use Rattle.words.proofs.wide.Reads as wide-reads
+use Rattle.table.proofs.class_of.Reads as class-of-reads
+use Rattle.table.proofs.first_row.Reads as first-row-reads
+use Rattle.table.proofs.row_count.Reads as row-count-reads
+use Rattle.table.proofs.row_marker.Reads as row-marker-reads
+use Rattle.table.proofs.row_symbol.Reads as row-symbol-reads
+use Rattle.table.proofs.row_to.Reads as row-to-reads
 use Rattle.joiner.proofs.reading.branch.Reads as branch
 use Rattle.joiner.proofs.reading.branch.Kinds as branch-kinds
 use Rattle.joiner.proofs.reading.+branch+read.Lts-branch as branch-lts
@@ -35,13 +42,6 @@ use Rattle.joiner.proofs.reading.exchange.Reads as exchange-reads
 use Rattle.joiner.proofs.reading.fits.Reads as fits-reads
 use Rattle.joiner.proofs.reading.found.Reads as found-reads
 use Rattle.joiner.proofs.reading.height_after.Reads as height-after-reads
-use Rattle.table.proofs.class_of.Reads as class-of-reads
-use Rattle.table.proofs.first_row.Reads as first-row-reads
-use Rattle.table.proofs.row_count.Reads as row-count-reads
-use Rattle.table.proofs.row_marker.Reads as row-marker-reads
-use Rattle.table.proofs.row_symbol.Reads as row-symbol-reads
-use Rattle.table.proofs.row_to.Reads as row-to-reads
-use Rattle.words.proofs.wide.Reads as wide-reads
 use Rattle.joiner.proofs.reading.+branch+read.{statement}
 use Rattle.joiner.proofs.reading.+branch+read.Tie.{close}
 

@@ -5,10 +5,10 @@ use Prim.Native.Nat.{_+_, _<_}
 use native.Mathlib.Omega.{arith}
 use Rattle.words.specs.Words.{Word}
 use Rattle.meaning.specs.Runs.{config}
-use Rattle.joiner.specs.Shelved.{wordsOf}
+use Rattle.shelf.specs.Shelved.{wordsOf}
+use Rattle.shelf.proofs.Laws.{gathers-none, gathers-as}
 use Rattle.joiner.specs.Reading.{Suits}
 use Rattle.joiner.specs.declared.reading.Goal.{Goal}
-use Rattle.joiner.proofs.ShelfLaws.{gathers-none, gathers-as}
 use Rattle.joiner.proofs.Found.{suited-one, keys-mark, keys-call, keys-close, keys-left}
 use borrow.Author.Needs.{needs}
 use Rattle.joiner.proofs.reading.found.Statement.{statement}

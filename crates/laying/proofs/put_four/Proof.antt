@@ -1,0 +1,41 @@
+-- `joiner::writing::put_four` meets its contract. Assumes nothing.
+use Rattle.words.proofs.Puts.{appended-next}
+use borrow.Author.Needs.{needs}
+use Rattle.laying.proofs.put_four.Statement.{statement}
+use Rattle.laying.proofs.put_four.Tie as tie
+
+put-byte-requires : tie.Need-put-byte-requires
+put-byte-requires c κs = search needs
+
+put-byte-requires-2 : tie.Need-put-byte-requires-2
+put-byte-requires-2 c κs = search needs
+
+put-byte-requires-3 : tie.Need-put-byte-requires-3
+put-byte-requires-3 c κs = search needs
+
+put-byte-requires-4 : tie.Need-put-byte-requires-4
+put-byte-requires-4 c κs = search needs
+
+same-length : tie.Need-same-length
+same-length c = search needs
+
+returns : tie.Need-returns
+returns c =
+    let fourth = c .before .before in
+    let third = fourth .before .before .before .before in
+    let second = third .before .before .before .before in
+    let first = second .before .before .before .before in
+    appended-next
+    (appended-next (appended-next (first .put-byte .ensures) (second .put-byte2 .ensures)) (third .put-byte3 .ensures))
+    (fourth .put-byte4 .ensures)
+
+pub put-four-spec : {M : Type 1} → statement M
+put-four-spec =
+    tie.close
+    (tie.spec
+    put-byte-requires
+    put-byte-requires-2
+    put-byte-requires-3
+    put-byte-requires-4
+    same-length
+    returns)

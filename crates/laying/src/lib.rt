@@ -1,0 +1,207 @@
+// The file of the joined table, part after part. Each function puts its part from a place on, where there is room for
+// it, and answers the place after it.
+use shelf::ROOM;
+use table::sets;
+use words::put_byte;
+use words::put_bytes;
+ghost use mathlib.Core.Path.{_≡_};
+ghost use mathlib.Core.List.{[], _∷_};
+ghost use Prim.Native.Nat.{_≤_};
+ghost use lib.ListN.{length};
+ghost use Rattle.words.specs.Calls.{Room, Appended};
+ghost use Rattle.meaning.specs.Runs.{said};
+ghost use Rattle.meaning.specs.Joining.{pairsOf};
+ghost use Rattle.table.specs.Sets.{members};
+ghost use Rattle.table.specs.File.{tableOf};
+ghost use Rattle.joining.specs.Laid.{littleEndian, entryBytes, setOf, rowBytes, rowsBytes};
+ghost use Rattle.laying.specs.Written.{keyRow, rowsIn, pairedFile, headOf, entriesBytes, setsBytes};
+ghost use Rattle.laying.specs.Written.{Paired, Pair, Key, Keys, Laying};
+
+// How many markers and rows the joined table has, and how many bytes its words have together.
+pub struct Sizes {
+    pub markers: usize,
+    pub rows: usize,
+    pub words: usize,
+}
+
+// A number of two bytes, the lowest first.
+fn put_two(out: &mut [u8], at: usize, n: usize) -> usize
+    requires { ⌜ Room (now out) at (littleEndian 2 n) ⌝ }
+    ensures { λ r. ⌜ Appended (now (out .entry)) at (littleEndian 2 n) r (now (out .exit)) ⌝ }
+{
+    let next = put_byte(out, at, (n % 256) as u8);
+    put_byte(out, next, (n / 256 % 256) as u8)
+}
+
+fn put_four(out: &mut [u8], at: usize, a: u8, b: u8, c: u8, d: u8) -> usize
+    requires { ⌜ Room (now out) at (a ∷ b ∷ c ∷ d ∷ []) ⌝ }
+    ensures { λ r. ⌜ Appended (now (out .entry)) at (a ∷ b ∷ c ∷ d ∷ []) r (now (out .exit)) ⌝ }
+{
+    let second = put_byte(out, at, a);
+    let third = put_byte(out, second, b);
+    let fourth = put_byte(out, third, c);
+    put_byte(out, fourth, d)
+}
+
+// A number of eight bytes, the lowest first.
+fn put_eight(out: &mut [u8], at: usize, n: u64) -> usize
+    requires { ⌜ Room (now out) at (littleEndian 8 n) ⌝ }
+    ensures { λ r. ⌜ Appended (now (out .entry)) at (littleEndian 8 n) r (now (out .exit)) ⌝ }
+{
+    let mut end = at;
+    let mut rest = n;
+    let mut i: usize = 0;
+    while i < 8 {
+        end = put_byte(out, end, (rest % 256) as u8);
+        rest = rest / 256;
+        i += 1;
+    }
+    end
+}
+
+fn put_entry(out: &mut [u8], at: usize, start: usize, size: usize) -> usize
+    requires { ⌜ Room (now out) at (entryBytes start size) ⌝ }
+    ensures { λ r. ⌜ Appended (now (out .entry)) at (entryBytes start size) r (now (out .exit)) ⌝ }
+{
+    let next = put_two(out, at, start);
+    put_two(out, next, size)
+}
+
+// The five entries, by how long the rows and the words are.
+fn put_entries(out: &mut [u8], at: usize, rows: usize, words: usize) -> usize
+    requires { ⌜ (Room (now out) at (entriesBytes rows words)) × (rows ≤ 65535) ⌝ }
+    ensures { λ r. ⌜ Appended (now (out .entry)) at (entriesBytes rows words) r (now (out .exit)) ⌝ }
+{
+    let second = put_entry(out, at, 28, 256);
+    let third = put_entry(out, second, 284, 8);
+    let fourth = put_entry(out, third, 292, 8);
+    let fifth = put_entry(out, fourth, 300, rows);
+    put_entry(out, fifth, 300 + rows, words)
+}
+
+// A row by its key, and where its word starts. A length is below 256, so that its second byte is the zero behind it.
+fn put_row(out: &mut [u8], at: usize, key: &[u8], start: usize) -> usize
+    requires { ⌜ (Room (now out) at (rowBytes start (keyRow (now key)))) × (Key (now key)) ⌝ }
+    ensures { λ r. ⌜ Appended (now (out .entry)) at (rowBytes start (keyRow (now (key .entry)))) r (now (out .exit)) ⌝ }
+{
+    let next = put_four(out, at, key[0], key[1], key[3], key[2]);
+    put_entry(out, next, start, key.len() - 4)
+}
+
+// All rows; each word starts where the one before ends.
+fn put_rows(
+    out: &mut [u8],
+    at: usize,
+    count: usize,
+    arena: &[u8; ROOM],
+    starts: &[usize; 257],
+    order: &[u8; 256],
+) -> usize
+    requires { ⌜ Room (now out) at (rowsBytes 0 (rowsIn (now arena) (now starts) (now order) count)) ⌝ }
+    requires { ⌜ Keys (now arena) (now starts) (now order) count ⌝ }
+    ensures { λ r. ⌜ Appended (now (out .entry)) at
+        (rowsBytes 0 (rowsIn (now (arena .entry)) (now (starts .entry)) (now (order .entry)) count))
+        r (now (out .exit)) ⌝ }
+{
+    let mut end = at;
+    let mut start: usize = 0;
+    let mut i: usize = 0;
+    while i < count {
+        let key = shelf::word(arena, starts, order, i);
+        end = put_row(out, end, key, start);
+        start += key.len() - 4;
+        i += 1;
+    }
+    end
+}
+
+// All words, in the order of their rows.
+fn put_words(
+    out: &mut [u8],
+    at: usize,
+    count: usize,
+    arena: &[u8; ROOM],
+    starts: &[usize; 257],
+    order: &[u8; 256],
+) -> usize
+    requires { ⌜ Room (now out) at (said (rowsIn (now arena) (now starts) (now order) count)) ⌝ }
+    requires { ⌜ Keys (now arena) (now starts) (now order) count ⌝ }
+    ensures { λ r. ⌜ Appended (now (out .entry)) at
+        (said (rowsIn (now (arena .entry)) (now (starts .entry)) (now (order .entry)) count)) r (now (out .exit)) ⌝ }
+{
+    let mut end = at;
+    let mut i: usize = 0;
+    while i < count {
+        let key = shelf::word(arena, starts, order, i);
+        end = put_bytes(out, end, &key[4..]);
+        i += 1;
+    }
+    end
+}
+
+// The pairs of two sets: each member of the first stands for as many states as the second table has.
+fn pairs(one: u64, other: u64, n: usize) -> u64
+    requires { ⌜ Paired one other n ⌝ }
+    ensures { λ r. ⌜ r ≡ setOf (pairsOf n (members one) (members other)) ⌝ }
+{
+    let mut all: u64 = 0;
+    let mut rest = one;
+    while rest != 0 {
+        let p = sets::lowest(rest) as usize;
+        all = all | (other << (p * n));
+        rest = sets::without_lowest(rest);
+    }
+    all
+}
+
+// The starting and the final set.
+fn put_sets(first: &[u8], second: &[u8], out: &mut [u8], at: usize) -> usize
+    requires { ⌜ (Pair (now first) (now second))
+        × (Room (now out) at (setsBytes (tableOf (now first)) (tableOf (now second)))) ⌝ }
+    ensures { λ r. ⌜ Appended (now (out .entry)) at
+        (setsBytes (tableOf (now (first .entry))) (tableOf (now (second .entry)))) r (now (out .exit)) ⌝ }
+{
+    let n = table::states(second);
+    let starting = pairs(table::starting_set(first), table::starting_set(second), n);
+    let accepting = pairs(table::final_set(first), table::final_set(second), n);
+    let next = put_eight(out, at, starting);
+    put_eight(out, next, accepting)
+}
+
+// The first eight bytes.
+fn put_head(first: &[u8], second: &[u8], out: &mut [u8], markers: usize, size: usize) -> usize
+    requires { ⌜ (Pair (now first) (now second)) × (8 ≤ length (now out)) × (markers ≤ 255) ⌝ }
+    ensures { λ r. ⌜ Appended (now (out .entry)) 0
+        (headOf (tableOf (now (first .entry))) (tableOf (now (second .entry))) markers size) r (now (out .exit)) ⌝ }
+{
+    let states = table::states(first) * table::states(second);
+    let depth = table::depth_cap(first);
+    let waiting = table::waiting_cap(second);
+    let next = put_four(out, 0, 1, states as u8, markers as u8, depth as u8);
+    put_entry(out, next, waiting, size)
+}
+
+// The whole file.
+pub fn write(
+    first: &[u8],
+    second: &[u8],
+    out: &mut [u8],
+    sizes: Sizes,
+    arena: &[u8; ROOM],
+    starts: &[usize; 257],
+    order: &[u8; 256],
+) -> usize
+    requires { ⌜
+        Laying (now first) (now second) sizes (now arena) (now starts) (now order) (now out) ⌝ }
+    ensures { λ r. ⌜ Appended (now (out .entry)) 0
+        (pairedFile (now (first .entry)) (now (second .entry)) sizes
+        (now (arena .entry)) (now (starts .entry)) (now (order .entry))) r (now (out .exit)) ⌝ }
+{
+    let long = 8 * sizes.rows;
+    let contents = put_head(first, second, out, sizes.markers, 300 + long + sizes.words);
+    let classes = put_entries(out, contents, long, sizes.words);
+    let starting = put_bytes(out, classes, &first[28..284]);
+    let rows = put_sets(first, second, out, starting);
+    let words = put_rows(out, rows, sizes.rows, arena, starts, order);
+    put_words(out, words, sizes.rows, arena, starts, order)
+}

@@ -1,0 +1,46 @@
+-- `joiner::nesting::known` meets its contract. Assumes nothing.
+use Rattle.nesting.proofs.ByRow.{told-known}
+use borrow.Author.Needs.{needs}
+use Rattle.nesting.proofs.known.Statement.{statement}
+use Rattle.nesting.proofs.known.Tie as tie
+
+class-of-requires : tie.Need-class-of-requires
+class-of-requires c κs = search needs
+
+enum-told : tie.Need-enum-told
+enum-told c = search needs
+
+enum-told-2 : tie.Need-enum-told-2
+enum-told-2 c = search needs
+
+enum-told-3 : tie.Need-enum-told-3
+enum-told-3 c = search needs
+
+enum-told-4 : tie.Need-enum-told-4
+enum-told-4 c = search needs
+
+returns : tie.Need-returns
+returns c = told-known (rw (← c .before .before .class-of .ensures, c .enum-told .given .1))
+
+returns-2 : tie.Need-returns-2
+returns-2 c = told-known (rw (← c .before .before .class-of .ensures, c .enum-told2 .given .1))
+
+returns-3 : tie.Need-returns-3
+returns-3 c = told-known (rw (← c .before .before .class-of .ensures, c .enum-told3 .given .1))
+
+returns-4 : tie.Need-returns-4
+returns-4 c = told-known (rw (← c .before .before .class-of .ensures, c .enum-told4 .given .1))
+
+pub known-spec : {M : Type 1} → statement M
+known-spec =
+    tie.close
+    (tie.spec
+    class-of-requires
+    enum-told
+    enum-told-2
+    enum-told-3
+    enum-told-4
+    returns
+    returns-2
+    returns-3
+    returns-4)

@@ -1,0 +1,81 @@
+-- `joiner::nesting::pair_nests` meets its contract. Assumes nothing.
+use mathlib.Core.Path.{refl, sym, ap, _∙_}
+use native.Mathlib.Omega.{arith}
+use Rattle.table.specs.Calls.{meant}
+use Rattle.table.proofs.Passed.{good-word}
+use Rattle.nesting.proofs.ByRow.{word-short, opens-few, pair-apart, pair-other, pair-closes}
+use borrow.Author.Needs.{needs}
+use Rattle.nesting.proofs.pair_nests.Statement.{statement}
+use Rattle.nesting.proofs.pair_nests.Tie as tie
+
+row-marker-requires : tie.Need-row-marker-requires
+row-marker-requires c κs = search needs
+
+row-marker-requires-2 : tie.Need-row-marker-requires-2
+row-marker-requires-2 c κs = search needs
+
+returns : tie.Need-returns
+returns c = pair-apart (λ e. omega arith)
+
+row-class-requires : tie.Need-row-class-requires
+row-class-requires c κs =
+    let pre = c .before .before .before .before .before .pre in
+    (pre .0 .hops .first, pre .0 .hops .bytes, pre .1)
+
+enum-told : tie.Need-enum-told
+enum-told c = search needs
+
+enum-told-2 : tie.Need-enum-told-2
+enum-told-2 c = search needs
+
+enum-told-3 : tie.Need-enum-told-3
+enum-told-3 c = search needs
+
+row-word-requires : tie.Need-row-word-requires
+row-word-requires c κs =
+    let pre = c .before .before .before .before .before .before .before .before .pre in
+    good-word _ _ (pre .0 .hops .first) (pre .1)
+
+closes-requires : tie.Need-closes-requires
+closes-requires c κs =
+    let pre = c .before .before .before .before .before .before .before .before .before .pre in
+    (pre .0 .hops .second, opens-few (pre .0), word-short (pre .0 .hops) _ (c .row-word .ensures))
+
+enum-told-4 : tie.Need-enum-told-4
+enum-told-4 c = search needs
+
+returns-2 : tie.Need-returns-2
+returns-2 c = pair-other (sym (c .before .before .row-class .ensures) ∙ ap meant (c .enum-told .given .1)) refl
+
+returns-3 : tie.Need-returns-3
+returns-3 c = pair-other (sym (c .before .before .row-class .ensures) ∙ ap meant (c .enum-told2 .given .1)) refl
+
+returns-4 : tie.Need-returns-4
+returns-4 c =
+    let told = c .before .before in
+    let class = told .before .before in
+    pair-closes (sym (class .row-class .ensures) ∙ ap meant (told .enum-told3 .given .1)) (omega arith)
+    (class .before .before .before .before .before .before .pre .0 .is)
+    (rw (← c .before .row-word .ensures) (c .closes .ensures))
+
+returns-5 : tie.Need-returns-5
+returns-5 c = pair-other (sym (c .before .before .row-class .ensures) ∙ ap meant (c .enum-told4 .given .1)) refl
+
+pub pair-nests-spec : {M : Type 1} → statement M
+pair-nests-spec =
+    tie.close
+    (tie.spec
+    row-marker-requires
+    row-marker-requires-2
+    returns
+    row-class-requires
+    enum-told
+    enum-told-2
+    enum-told-3
+    row-word-requires
+    closes-requires
+    enum-told-4
+    returns-2
+    returns-3
+    returns-4
+    returns-5)

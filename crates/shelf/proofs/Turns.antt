@@ -1,0 +1,154 @@
+-- What the loops leave that look for the place of a word and insert a slot into the order. Assumes nothing.
+use mathlib.Core.Path.{_≡_, refl, sym, _∙_, ap}
+use mathlib.Core.Logic.{_⊎_, inl, inr}
+use mathlib.Core.List.{List, Memᴰ·of-map}
+use Prim.Native.Nat.{ℕ, _+_, _-_, _<_, _≤_}
+use native.Mathlib.Nat.{eq-or-lt-of-le}
+use native.Mathlib.Omega.{arith}
+use lib.ListN.{length, set, length-set}
+use lib.Seq.{getD-set-same, getD-set-other}
+use Rattle.words.specs.Lists.{upTo}
+use Rattle.words.specs.Words.{Word}
+use Rattle.words.specs.Order.{Less, lower, same, upper, side, rank}
+use Rattle.words.proofs.Lists.{upTo-out, below-or}
+use Rattle.words.proofs.Order.{less-self, less-trans, side-lower, side-same, side-upper, rises-out}
+use Rattle.shelf.specs.Shelved.{slotOf, wordAt, wordsOf, Standing, Place, Inserted}
+use Rattle.shelf.proofs.Lists.{rank-at}
+
+-- the place is between two others
+pub record Narrowed (arena starts order : List ℕ) (count : ℕ) (w : Word) (low high : ℕ) : Type 0 where
+  pub ordered : low ≤ high
+  pub within : high ≤ count
+  pub before : (i : ℕ) → i < low → Less (wordAt arena starts order i) w
+  pub onward : (i : ℕ) → high ≤ i → i < count → Less (wordAt arena starts order i) w → ⊥
+
+module _ {arena starts order : List ℕ} {count : ℕ} where
+  pub narrowed-start : {w : Word} → Narrowed arena starts order count w 0 count
+  narrowed-start =
+      record {
+        ordered = omega arith;
+        within = omega arith;
+        before = λ i h. absurd (omega arith);
+        onward = λ i h k. absurd (omega arith);
+      }
+
+  module _ (s : Standing arena starts order count) where
+    abbrev at : ℕ → Word
+    at i = wordAt arena starts order i
+
+    pub words-rise : (i j : ℕ) → i < j → j < count → Less (at i) (at j)
+    words-rise = rises-out (λ (v : Word). v) at count (s .rise)
+
+    -- the word is at a place
+    pub narrowed-same : {w : Word} (m : ℕ) → m < count → side w (at m) ≡ same
+        → Narrowed arena starts order count w m m
+    narrowed-same {w} m h e =
+        record {
+          ordered = omega arith;
+          within = omega arith;
+          before = λ i l. rw is (words-rise i m l h);
+          onward = λ i l k less. go i k (rw is at less) (eq-or-lt-of-le l);
+        }
+      where
+        is : w ≡ at m
+        is = side-same w (at m) e
+
+        go : (i : ℕ) → i < count → Less (at i) (at m) → (m ≡ i) ⊎ (m < i) → ⊥
+        go i k less (inl d) = less-self (at m) (rw (← d) at less)
+        go i k less (inr l) = less-self (at m) (less-trans (at m) (at i) (at m) (words-rise m i l k) less)
+
+    module _ {w : Word} {low high : ℕ} (n : Narrowed arena starts order count w low high) where
+      pub narrowed-after : (m : ℕ) → m < high → side w (at m) ≡ upper → Narrowed arena starts order count w (m + 1) high
+      narrowed-after m h e =
+          record {
+            ordered = omega arith;
+            within = n .within;
+            before = λ i k. go i (eq-or-lt-of-le (omega arith));
+            onward = n .onward;
+          }
+        where
+          go : (i : ℕ) → (i ≡ m) ⊎ (i < m) → Less (at i) w
+          go i (inl d) = rw d (side-upper w (at m) e)
+          go i (inr l) =
+              let u = n .within in
+              less-trans (at i) (at m) w (words-rise i m l (omega arith)) (side-upper w (at m) e)
+
+      pub narrowed-before : (m : ℕ) → low ≤ m → m < high → side w (at m) ≡ lower
+          → Narrowed arena starts order count w low m
+      narrowed-before m g h e =
+          let u = n .within in
+          record {
+            ordered = g;
+            within = omega arith;
+            before = n .before;
+            onward = λ i k l less. go i l less (eq-or-lt-of-le k);
+          }
+        where
+          apart : Less (at m) w → ⊥
+          apart less = less-self w (less-trans w (at m) w (side-lower w (at m) e) less)
+
+          go : (i : ℕ) → i < count → Less (at i) w → (m ≡ i) ⊎ (m < i) → ⊥
+          go i l less (inl d) = apart (rw d less)
+          go i l less (inr k) = apart (less-trans (at m) (at i) w (words-rise m i k l) less)
+
+      pub narrowed-place : high ≤ low → Place arena starts order count w low
+      narrowed-place le =
+          record {
+            within = omega (arith, n .ordered, n .within);
+            before = n .before;
+            onward = λ i h k. n .onward i (omega (arith, n .ordered)) k;
+            ranked = λ m. let i = Memᴰ·of-map at (upTo count) m in is (i .0) (upTo-out count (i .0) (i .1)) (i .2);
+          }
+        where
+          here : (i : ℕ) → i < count → at i ≡ w → (i < low) ⊎ (low ≤ i) → (low < i) ⊎ (i ≤ low) → low ≡ i
+          here i l e (inl h) o = absurd (less-self w (rw e at (n .before i h)))
+          here i l e (inr h) (inl k) =
+              absurd (n .onward low le (omega arith) (rw e at (words-rise low i k l)))
+          here i l e (inr h) (inr k) = omega arith
+
+          is : (i : ℕ) → i < count → at i ≡ w → low ≡ rank (λ (v : Word). v) (wordsOf arena starts order count) w
+          is i l e =
+              let d = here i l e (below-or i low) (below-or low i) in
+              sym
+              (rank-at w at count low (omega arith) (sym (ap at d ∙ e)) (λ j h f.
+              less-self w (rw (← f) at (n .before j h))))
+
+-- the slots from a place up to `count` moved up by one
+pub record Shifted (order : List ℕ) (count at : ℕ) (order′ : List ℕ) : Type 0 where
+  pub whole : length order′ ≡ length order
+  pub before : (i : ℕ) → i < at → slotOf order′ i ≡ slotOf order i
+  pub after : (i : ℕ) → at ≤ i → i < count → slotOf order′ (i + 1) ≡ slotOf order i
+
+pub shifted-none : (order : List ℕ) (count : ℕ) → Shifted order count count order
+shifted-none order count = record { whole = refl; before = λ i h. refl; after = λ i g h. absurd (omega arith) }
+
+module _ {order order′ : List ℕ} {count at : ℕ} (s : Shifted order count at order′) where
+  pub shifted-more : 0 < at → at < length order → Shifted order count (at - 1) (set order′ at (slotOf order′ (at - 1)))
+  shifted-more pos lt =
+      record {
+        whole = length-set order′ at (slotOf order′ (at - 1)) ∙ s .whole;
+        before = λ i h.
+            getD-set-other order′ at i (slotOf order′ (at - 1)) 0 (λ e. omega arith) ∙ s .before i (omega arith);
+        after = λ i g h. after i g h (below-or i at);
+      }
+    where
+      after : (i : ℕ) → at - 1 ≤ i → i < count → (i < at) ⊎ (at ≤ i)
+          → slotOf (set order′ at (slotOf order′ (at - 1))) (i + 1) ≡ slotOf order i
+      after i g h (inr k) =
+          getD-set-other order′ at (i + 1) (slotOf order′ (at - 1)) 0 (λ e. omega arith) ∙ s .after i k h
+      after i g h (inl k) =
+          let e : i + 1 ≡ at = omega arith in
+          let f : at - 1 ≡ i = omega arith in
+          ap (slotOf (set order′ at (slotOf order′ (at - 1)))) e
+          ∙ getD-set-same order′ at (slotOf order′ (at - 1)) 0 (omega (arith, s .whole))
+          ∙ ap (slotOf order′) f ∙ s .before i k
+
+  pub shifted-inserted : (place : ℕ) → place ≤ at → at ≤ place → place < length order
+      → Inserted order count place (set order′ place count)
+  shifted-inserted place le ge lt =
+      record {
+        before = λ k h. getD-set-other order′ place k count 0 (λ e. omega arith) ∙ s .before k (omega arith);
+        here = getD-set-same order′ place count 0 (omega (arith, s .whole));
+        after = λ k g h.
+            getD-set-other order′ place (k + 1) count 0 (λ e. omega arith) ∙ s .after k (omega arith) h;
+      }

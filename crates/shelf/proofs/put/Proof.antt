@@ -1,0 +1,28 @@
+-- `joiner::shelf::put` meets its contract. Assumes nothing.
+use Rattle.shelf.proofs.Laws.{shelved-made, gathers-full}
+use borrow.Author.Needs.{needs}
+use Rattle.shelf.proofs.put.Statement.{statement}
+use Rattle.shelf.proofs.put.Tie as tie
+
+enum-told : tie.Need-enum-told
+enum-told c = search needs
+
+enum-known-shelf : tie.Need-enum-known-shelf
+enum-known-shelf c = search needs
+
+put-in-requires : tie.Need-put-in-requires
+put-in-requires c κs =
+    let matched = c .before .before .before .before in
+    let pre = matched .before .before .before .before .pre in
+    (pre .0, shelved-made (pre .1 .made _ _ (matched .shelf .given .1)))
+
+returns : tie.Need-returns
+returns c = gathers-full _ (c .enum-told .given .1)
+
+returns-2 : tie.Need-returns-2
+returns-2 c = λ made g.
+    let matched = c .before .before .before .before .before in
+    c .put-in .ensures made (shelved-made (g .made _ _ (matched .shelf .given .1)))
+
+pub put-spec : {M : Type 1} → statement M
+put-spec = tie.close (tie.spec enum-told enum-known-shelf put-in-requires returns returns-2)

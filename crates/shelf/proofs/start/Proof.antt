@@ -1,0 +1,10 @@
+-- `joiner::shelf::start` meets its contract. Assumes nothing.
+use Rattle.shelf.proofs.Laws.{shelved-none}
+use Rattle.shelf.proofs.start.Statement.{statement}
+use Rattle.shelf.proofs.start.Tie as tie
+
+returns : tie.Need-returns
+returns c = shelved-none
+
+pub start-spec : {M : Type 1} → statement M
+start-spec = tie.close (tie.spec returns)

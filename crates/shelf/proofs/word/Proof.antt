@@ -1,0 +1,80 @@
+-- `joiner::shelf::word` meets its contract. Assumes nothing.
+use mathlib.Core.Path.{ap, _∙_}
+use Prim.Native.Nat.{ℕ, _+_, _<_}
+use native.Mathlib.Omega.{arith}
+use mathlib.Core.List.{List}
+use Rattle.shelf.specs.Shelved.{startOf, wordIn}
+use Rattle.shelf.proofs.Rooms.{part-slice}
+use borrow.Author.Needs.{needs}
+use Rattle.shelf.proofs.word.Statement.{statement}
+use Rattle.shelf.proofs.word.Tie as tie
+
+-- the slot is in use
+in-use : (c : tie.After-wide) → c .wide .result < c .before .before .pre .count
+in-use c =
+    let pre = c .before .before .pre in
+    omega (arith, c .wide .ensures .0, pre .standing .slots _ (pre .within))
+
+element-copy-out-wide : tie.Need-element-copy-out-wide
+element-copy-out-wide c = search needs
+
+wide-requires : tie.Need-wide-requires
+wide-requires c κs = search needs
+
+mul-from : tie.Need-mul-from
+mul-from c = search needs
+
+element-copy-out-from : tie.Need-element-copy-out-from
+element-copy-out-from c = search needs
+
+add-to : tie.Need-add-to
+add-to c = search needs
+
+mul-to : tie.Need-mul-to
+mul-to c = search needs
+
+element-copy-out-to : tie.Need-element-copy-out-to
+element-copy-out-to c = search needs
+
+sub-result : tie.Need-sub-result
+sub-result c =
+    let slot = c .before .before .before in
+    let standing = slot .before .before .pre .standing in
+    omega (arith, standing .edges _ (in-use slot), standing .ends _ (in-use slot))
+
+part-result-start : tie.Need-part-result-start
+part-result-start c =
+    let slot = c .before .before .before in
+    let standing = slot .before .before .pre .standing in
+    omega (arith, standing .edges _ (in-use slot), standing .ends _ (in-use slot))
+
+part-result-end : tie.Need-part-result-end
+part-result-end c =
+    let slot = c .before .before .before in
+    let standing = slot .before .before .pre .standing in
+    omega (arith, standing .edges _ (in-use slot), standing .ends _ (in-use slot))
+
+returns : tie.Need-returns
+returns c =
+    let slot = c .before .before .before .before in
+    let z = slot .before .before .args in
+    let arena : List ℕ = z .arena .now in
+    let starts : List ℕ = z .starts .now in
+    let s = slot .wide .result in
+    part-slice (startOf starts s) (startOf starts (s + 1)) arena ∙ ap (wordIn arena starts) (slot .wide .ensures .0)
+
+pub word-spec : {M : Type 1} → statement M
+word-spec =
+    tie.close
+    (tie.spec
+    element-copy-out-wide
+    wide-requires
+    mul-from
+    element-copy-out-from
+    add-to
+    mul-to
+    element-copy-out-to
+    sub-result
+    part-result-start
+    part-result-end
+    returns)
