@@ -2,6 +2,7 @@
 // put on a shelf. The stack stands in the lent room from its bottom.
 use shelf::ROOM;
 use shelf::Shelf;
+use shelf::full;
 use shelf::place;
 use shelf::put;
 use table::Class;
@@ -215,7 +216,8 @@ fn found(
     }
 }
 
-// All endings that go on by a row of a class, if it fits. The place that a call's marker takes gets back what it held.
+// All endings that go on by a row of a class, if it fits; none is looked for once the shelf is full. The place that a
+// call's marker takes gets back what it held.
 fn branch(
     second: &[u8],
     class: Class,
@@ -252,6 +254,9 @@ fn branch(
         a (now (arena .exit)) (now (starts .exit)) (now (order .exit)) ⌝ }
     ensures { λ _. ⌜ Untouched (now (stack .entry)) (now (out .entry)) long (now (stack .exit)) (now (out .exit)) ⌝ }
 {
+    if full(shelf) {
+        return shelf;
+    }
     if !fits(second, class, r, state, stack, height) {
         return shelf;
     }

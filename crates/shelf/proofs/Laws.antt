@@ -1,5 +1,5 @@
 -- What holds of a shelf: at the start, and with more words put on it; that it stays full. Assumes nothing.
-use mathlib.Core.Path.{_≡_, refl, ap}
+use mathlib.Core.Path.{_≡_, refl, sym, ap, subst}
 use mathlib.Core.Logic.{_⊎_, inl, inr}
 use mathlib.Core.List.{List, [], _∷_, _++_, append-nil, append-assoc}
 use Prim.Native.Nat.{ℕ, _<_, _≤_}
@@ -76,6 +76,10 @@ module _ {arena starts order : List ℕ} {s : Shelf} where
   pub gathers-full : (more : List Word) {arena′ starts′ order′ : List ℕ} → s ≡ Full
       → Gathers more arena starts order s Full arena′ starts′ order′
   gathers-full more e made h = shelved-full (outgrown-more made more (h .full e))
+
+  pub gathers-still : (more : List Word) → s ≡ Full → Gathers more arena starts order s s arena starts order
+  gathers-still more e made h =
+      subst (λ (r : Shelf). Shelved (made ++ more) r arena starts order) (sym e) (gathers-full more e made h)
 
   module _ {A arena′ starts′ order′ : List _} {s′ : Shelf}
       (a : Gathers A arena starts order s s′ arena′ starts′ order′) where

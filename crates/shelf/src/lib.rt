@@ -12,7 +12,7 @@ ghost use Rattle.words.specs.Lists.{Exact};
 ghost use Rattle.words.specs.Order.{side};
 ghost use Rattle.words.specs.Calls.{sideOf};
 ghost use Rattle.shelf.specs.Shelved.{wordAt, Stands, Standing, Bare, Ready, Gathers, Place, Stored, Inserted};
-ghost use Rattle.shelf.specs.declared.Shelf.the-variants.{Made};
+ghost use Rattle.shelf.specs.declared.Shelf.the-variants.{Full, Made};
 
 // How many bytes all words may have together.
 pub const ROOM: usize = 5120;
@@ -28,6 +28,16 @@ pub fn start() -> Shelf
     ensures { λ r. ⌜ Bare r ⌝ }
 {
     Shelf::Made { count: 0, used: 0 }
+}
+
+// Whether there was no room for a word.
+pub fn full(shelf: Shelf) -> bool
+    ensures { λ r. ⌜ Exact (shelf ≡ Full) r ⌝ }
+{
+    match shelf {
+        Shelf::Full => true,
+        Shelf::Made { count: _, used: _ } => false,
+    }
 }
 
 // Puts a word at its place, unless it is there.

@@ -13,7 +13,7 @@ use Rattle.table.specs.File.{rowCount, rowStart, rowAt}
 use Rattle.table.specs.Calls.{meant}
 use Rattle.table.proofs.Symbols.{symbols-up}
 use Rattle.shelf.specs.Shelved.{wordsOf}
-use Rattle.shelf.proofs.Laws.{gathers-none, gathers-as}
+use Rattle.shelf.proofs.Laws.{gathers-none, gathers-still, gathers-as}
 use Rattle.joiner.specs.Reading.{configOf, Fits, Untouched, findingsOf}
 use Rattle.joiner.proofs.Moves.{taken-none, moved, height-near, untouched, untouched-self, untouched-both}
 use Rattle.joiner.proofs.Moves.{untouched-config}
@@ -42,6 +42,7 @@ use Rattle.joiner.proofs.reading.exchange.Reads as exchange-reads
 use Rattle.joiner.proofs.reading.fits.Reads as fits-reads
 use Rattle.joiner.proofs.reading.found.Reads as found-reads
 use Rattle.joiner.proofs.reading.height_after.Reads as height-after-reads
+use Rattle.shelf.proofs.full.Reads as full-reads
 use Rattle.joiner.proofs.reading.+branch+read.{statement}
 use Rattle.joiner.proofs.reading.+branch+read.Tie.{close}
 
@@ -68,6 +69,8 @@ read-below t = and 10 read-kinds.ps (falls 10 read-kinds.ps _<_ μ-read t) read.
 -- what the callees ask and say, at the measure t
 abbrev branch-calls : ℕ → branch-lts.Claims
 branch-calls t = (
+  full-reads.Asked,
+  full-reads.Learnt,
   fits-reads.Asked,
   fits-reads.Learnt,
   row-marker-reads.Asked,
@@ -117,7 +120,7 @@ abbrev μ-loop : read-lts.MeasureT-loop
 -- where it is known whether the row fits: the arguments, and the marks
 module _ (t : ℕ) (c : branch-lts.After-fits2 (branch-calls t) (branch-at t) branch.Post) where
   abbrev branch-start : branch-lts.Start (branch-calls t) (branch-at t) branch.Post
-  branch-start = c .before .before .before .before
+  branch-start = c .before .before .before .before .before .before
 
   abbrev branch-marks : List Word
   branch-marks =
@@ -125,10 +128,10 @@ module _ (t : ℕ) (c : branch-lts.After-fits2 (branch-calls t) (branch-at t) br
       wordsOf (a .keys .now) (a .edges .now) (a .turns .now) (a .marks)
 
 -- where it fits, and the configuration that follows
-branch-fits : (t : ℕ) (c : branch-lts.Else1 (branch-calls t) (branch-at t) branch.Post)
+branch-fits : (t : ℕ) (c : branch-lts.Else2 (branch-calls t) (branch-at t) branch.Post)
     → let a = branch-start t (c .before) .args in
     Fits (meant (a .class)) (rowAt (a .second .now) (a .r)) (a .state) (a .stack .now) (a .height)
-branch-fits t c = granted (c .before .fits2 .ensures .exact) (c .if1 .left)
+branch-fits t c = granted (c .before .fits2 .ensures .exact) (c .if2 .left)
 
 branch-moved : (t : ℕ) (c : branch-lts.After-height-after (branch-calls t) (branch-at t) branch.Post)
     → let append = c .before .before in
@@ -146,16 +149,22 @@ branch-moved t c =
     (exchange .before .row-marker .ensures) (c .before .row-to .ensures) (c .height-after .ensures)
     (append .append .ensures)
 
-branch-fits-requires : (t : ℕ) → branch-lts.Need-fits-requires (branch-calls t) (branch-at t) branch.Post
-branch-fits-requires t c κs =
-    let pre = c .before .before .before .pre .1 .0 in
-    (pre .0 .good, pre .1, omega (arith, pre .0 .high))
+branch-full-requires : (t : ℕ) → branch-lts.Need-full-requires (branch-calls t) (branch-at t) branch.Post
+branch-full-requires t c κs = tt
 
 branch-returns : (t : ℕ) → branch-lts.Need-returns (branch-calls t) (branch-at t) branch.Post
-branch-returns t c =
+branch-returns t c = (gathers-still _ (c .before .full .ensures .1 (c .if1 .taken)), untouched-self)
+
+branch-fits-requires : (t : ℕ) → branch-lts.Need-fits-requires (branch-calls t) (branch-at t) branch.Post
+branch-fits-requires t c κs =
+    let pre = c .before .before .before .before .before .pre .1 .0 in
+    (pre .0 .good, pre .1, omega (arith, pre .0 .high))
+
+branch-returns-2 : (t : ℕ) → branch-lts.Need-returns-2 (branch-calls t) (branch-at t) branch.Post
+branch-returns-2 t c =
     let a = branch-start t (c .before) .args in
     let told = c .before .fits2 .ensures in
-    let none = taken-none (a .out .now) (a .long) (told .within) (denied (told .exact) (c .if1 .taken)) in (
+    let none = taken-none (a .out .now) (a .long) (told .within) (denied (told .exact) (c .if2 .taken)) in (
       gathers-as gathers-none
           (ap (findingsOf (a .second .now) (branch-marks t (c .before)) (a .goal) (a .rest .now)) (sym none)),
       untouched-self,
@@ -168,7 +177,7 @@ branch-row-marker-requires t c κs =
 
 branch-cast-exchange : (t : ℕ) → branch-lts.Need-cast-exchange (branch-calls t) (branch-at t) branch.Post
 branch-cast-exchange t c =
-    let known = c .before .before .before .before .before .before in
+    let known = c .before .before .before .before .before .before .before .before in
     let small = known .shared-slice-known .given (rowStart (known .before .args .r) + 3) in
     omega (arith, c .row-marker .ensures)
 
@@ -226,8 +235,8 @@ branch-exchange-requires-2 t c κs =
     let else = step .before .before .before .before .before .before .before in
     omega (arith, branch-start t (else .before) .pre .1 .0 .0 .high)
 
-branch-returns-2 : (t : ℕ) → branch-lts.Need-returns-2 (branch-calls t) (branch-at t) branch.Post
-branch-returns-2 t c =
+branch-returns-3 : (t : ℕ) → branch-lts.Need-returns-3 (branch-calls t) (branch-at t) branch.Post
+branch-returns-3 t c =
     let read = c .before .before in
     let step = read .before .before .before .before .before .before in
     let else = step .before .before .before .before .before .before .before in
@@ -455,8 +464,10 @@ pub +branch+read-spec : {M : Type 1} → statement M
 +branch+read-spec =
     close μ-branch μ-read
     (λ t. branch-lts.spec (branch-calls t) (branch-at t) branch.Post
-    (branch-fits-requires t)
+    (branch-full-requires t)
     (branch-returns t)
+    (branch-fits-requires t)
+    (branch-returns-2 t)
     (branch-row-marker-requires t)
     (branch-cast-exchange t)
     (branch-exchange-requires t)
@@ -465,7 +476,7 @@ pub +branch+read-spec : {M : Type 1} → statement M
     (branch-height-after-requires t)
     (branch-read-requires t)
     (branch-exchange-requires-2 t)
-    (branch-returns-2 t))
+    (branch-returns-3 t))
     (λ t. read-lts.spec (read-calls t) (read-at t) read.Post Inv-loop μ-loop
     (read-slice-aggregate-found t)
     (read-slice-aggregate-found-2 t)
