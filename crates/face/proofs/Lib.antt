@@ -1,2 +1,2 @@
--- The promises of check and begin, by the number and the values that their answers stand for.
+-- The promises of check, begin and join, by the number and the values that their answers stand for.
 mod Said

@@ -3,6 +3,7 @@
 use engine::WORK;
 use engine::said_by_finish;
 use engine::said_by_step;
+use joiner::Joining;
 use session::Opening;
 use session::places::SIZE;
 use table::Verdict;
@@ -10,6 +11,8 @@ ghost use mathlib.Core.Path.{_≡_};
 ghost use Rattle.table.specs.Calls.{Judged};
 ghost use Rattle.session.specs.Calls.{numberOf, statesOf, Begins};
 ghost use Rattle.stepping.specs.Promises.{Stepped, Finished};
+ghost use Rattle.joining.specs.Promises.{Joins};
+ghost use Rattle.joiner.specs.Calls.{numberOf as joiningNumber, whichOf, countOf};
 
 #[no_mangle]
 pub extern "C" fn jermanuts_check(file: &[u8]) -> u32
@@ -82,6 +85,24 @@ pub extern "C" fn jermanuts_finish(
     said.number as u32
 }
 
+#[no_mangle]
+pub extern "C" fn jermanuts_join(
+    first: &[u8],
+    second: &[u8],
+    out: &mut [u8],
+    which: &mut u32,
+    count: &mut usize,
+) -> u32
+    ensures { λ r. ⌜
+        Joins (now (first .entry)) (now (second .entry)) (now (out .entry)) r (now (which .exit)) (now (count .exit))
+        (now (out .exit)) ⌝ }
+{
+    let said = said_by_join(joiner::join(first, second, out));
+    *which = said.which;
+    *count = said.count;
+    said.number
+}
+
 fn opening_number(opening: Opening) -> u32
     ensures { λ r. ⌜ r ≡ numberOf opening ⌝ }
 {
@@ -97,5 +118,43 @@ fn states_of(opening: Opening) -> u32
     match opening {
         Opening::Taken { states } => states,
         Opening::BadTable => 0,
+    }
+}
+
+// The number given back, the table that is bad (0: none), and the byte count.
+struct Joined {
+    number: u32,
+    which: u32,
+    count: usize,
+}
+
+fn refusal(number: u32) -> Joined
+    ensures { λ r. ⌜ (r .number ≡ number) × (r .which ≡ 0) × (r .count ≡ 0) ⌝ }
+{
+    Joined {
+        number,
+        which: 0,
+        count: 0,
+    }
+}
+
+fn said_by_join(joining: Joining) -> Joined
+    ensures { λ r. ⌜
+        (r .number ≡ joiningNumber joining) × (r .which ≡ whichOf joining) × (r .count ≡ countOf joining) ⌝ }
+{
+    match joining {
+        Joining::Taken { count } => Joined {
+            number: 0,
+            which: 0,
+            count,
+        },
+        Joining::BadTable { which } => Joined {
+            number: 1,
+            which: which as u32,
+            count: 0,
+        },
+        Joining::NotNested => refusal(14),
+        Joining::TooLarge => refusal(15),
+        Joining::NoRoom => refusal(10),
     }
 }
