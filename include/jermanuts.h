@@ -48,7 +48,7 @@ enum jermanuts_number {
     JERMANUTS_NOT_FINAL = 12,     /* finish, no run in a final state */
     JERMANUTS_AMBIGUOUS = 13,     /* finish, two accepting runs differ in output */
     JERMANUTS_NOT_NESTED = 14,    /* join, words of the first don't nest by the second's classes */
-    JERMANUTS_TOO_LARGE = 15      /* join, a word of the first or the joined table is over a limit */
+    JERMANUTS_TOO_LARGE = 15      /* join, a word of the first or the joined table over a limit */
 };
 
 /* Looks whether the file_len bytes of file keep every rule of the rule file. Gives 0 or 1. */

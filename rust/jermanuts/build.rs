@@ -1,0 +1,22 @@
+//! Links the library, `libface.a`, from the directory that `JERMANUTS_LIB` names or from where
+//! `./library` puts it.
+
+use std::env;
+use std::path::Path;
+
+fn main() {
+    let named = env::var("JERMANUTS_LIB").unwrap_or_else(|_| "../../target/staticlib".to_string());
+    let home = env::var("CARGO_MANIFEST_DIR").expect("cargo names the package's directory");
+    // A relative directory is taken from this package, wherever cargo was started.
+    let directory = Path::new(&home).join(named);
+    let library = directory.join("libface.a");
+    println!("cargo:rerun-if-env-changed=JERMANUTS_LIB");
+    println!("cargo:rerun-if-changed={}", library.display());
+    assert!(
+        library.is_file(),
+        "there is no {}: `./library` in the repository's root builds it",
+        library.display()
+    );
+    println!("cargo:rustc-link-search=native={}", directory.display());
+    println!("cargo:rustc-link-lib=static=face");
+}

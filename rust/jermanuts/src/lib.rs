@@ -1,0 +1,70 @@
+//! Nested messages rewritten by rule table, one symbol at a time.
+//!
+//! Check a table, begin a session, take symbols, finish. What all readings of the symbols so far
+//! agree on is sent at once.
+//!
+//! ```
+//! use jermanuts::{Refusal, Table, OUT, SESSION};
+//!
+//! fn rewrite(file: &[u8], message: &[u8]) -> Result<Vec<u8>, Refusal> {
+//!     let (mut session, _) = Table::new(file)?.begin(Box::new([0; SESSION]));
+//!     let (mut sent, mut out) = (Vec::new(), [0; OUT]);
+//!     for &symbol in message {
+//!         sent.extend_from_slice(session.step(symbol, &mut out)?);
+//!     }
+//!     sent.extend_from_slice(session.finish(&mut out)?);
+//!     Ok(sent)
+//! }
+//! # const G: &[u8] = include_bytes!(concat!(env!("CARGO_MANIFEST_DIR"), "/../../samples/g.table"));
+//! assert_eq!(rewrite(G, &[10, 1, 11]), Ok(b"OKp".to_vec()));
+//! assert_eq!(rewrite(G, &[10, 1]), Err(Refusal::Unclosed));
+//! ```
+//!
+//! There is no allocation and no dependency. The calls are those of `libface.a`, which are proved;
+//! this crate gives them their types. The numbers of [`Refusal`] and the lengths below are those of
+//! `include/jermanuts.h`.
+
+#![no_std]
+#![deny(missing_docs, unsafe_code)]
+
+mod refusal;
+mod session;
+#[allow(unsafe_code)]
+mod sys;
+mod table;
+
+pub use refusal::Refusal;
+pub use session::Session;
+pub use table::Table;
+
+/// Bytes of a session.
+///
+/// ```
+/// let room = [0; jermanuts::SESSION];
+/// assert_eq!(room.len(), 33_218);
+/// ```
+pub const SESSION: usize = 33_218;
+
+/// Bytes of the room that [`Session::step_in`] works in.
+///
+/// ```
+/// let work = [0; jermanuts::WORK];
+/// assert_eq!(work.len(), 49_664);
+/// ```
+pub const WORK: usize = 49_664;
+
+/// Bytes of output that suffice for every step and finish.
+///
+/// ```
+/// let out = [0; jermanuts::OUT];
+/// assert_eq!(out.len(), 1_024);
+/// ```
+pub const OUT: usize = 1_024;
+
+/// Bytes of the longest rule file, which suffice for every [`Table::join`].
+///
+/// ```
+/// let file = [0; jermanuts::FILE];
+/// assert_eq!(file.len(), 6_444);
+/// ```
+pub const FILE: usize = 6_444;

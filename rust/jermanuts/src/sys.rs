@@ -1,0 +1,145 @@
+//! The library's functions, and the only unsafe code: each is called with slices and arrays, whose
+//! types say what the header `include/jermanuts.h` asks in words. Lengths are right, no pointer is
+//! null, and nothing that is written overlaps anything.
+
+use crate::{SESSION, WORK};
+
+extern "C" {
+    fn jermanuts_check(file: *const u8, file_len: usize) -> u32;
+    fn jermanuts_begin(file: *const u8, file_len: usize, session: *mut u8, states: *mut u32)
+        -> u32;
+    fn jermanuts_step(
+        file: *const u8,
+        file_len: usize,
+        session: *mut u8,
+        symbol: u8,
+        out: *mut u8,
+        out_len: usize,
+        count: *mut usize,
+    ) -> u32;
+    fn jermanuts_step_in(
+        file: *const u8,
+        file_len: usize,
+        session: *mut u8,
+        symbol: u8,
+        out: *mut u8,
+        out_len: usize,
+        count: *mut usize,
+        work: *mut u8,
+    ) -> u32;
+    fn jermanuts_finish(
+        file: *const u8,
+        file_len: usize,
+        session: *const u8,
+        out: *mut u8,
+        out_len: usize,
+        count: *mut usize,
+    ) -> u32;
+    fn jermanuts_join(
+        first: *const u8,
+        first_len: usize,
+        second: *const u8,
+        second_len: usize,
+        out: *mut u8,
+        out_len: usize,
+        which: *mut u32,
+        count: *mut usize,
+    ) -> u32;
+}
+
+/// The number.
+pub fn check(file: &[u8]) -> u32 {
+    // SAFETY: `file` is a slice.
+    unsafe { jermanuts_check(file.as_ptr(), file.len()) }
+}
+
+/// The number, and the starting states.
+pub fn begin(file: &[u8], session: &mut [u8; SESSION]) -> (u32, u32) {
+    let mut states = 0;
+    // SAFETY: the session has its length by its type; it and `states` are borrowed for writing, so
+    // they overlap nothing.
+    let number =
+        unsafe { jermanuts_begin(file.as_ptr(), file.len(), session.as_mut_ptr(), &mut states) };
+    (number, states)
+}
+
+/// The number, and the byte count.
+pub fn step(file: &[u8], session: &mut [u8; SESSION], symbol: u8, out: &mut [u8]) -> (u32, usize) {
+    let mut count = 0;
+    // SAFETY: as in `begin`; `out` is a slice that is borrowed for writing.
+    let number = unsafe {
+        jermanuts_step(
+            file.as_ptr(),
+            file.len(),
+            session.as_mut_ptr(),
+            symbol,
+            out.as_mut_ptr(),
+            out.len(),
+            &mut count,
+        )
+    };
+    (number, count)
+}
+
+/// The number, and the byte count.
+pub fn step_in(
+    file: &[u8],
+    session: &mut [u8; SESSION],
+    symbol: u8,
+    out: &mut [u8],
+    work: &mut [u8; WORK],
+) -> (u32, usize) {
+    let mut count = 0;
+    // SAFETY: as in `step`; the work has its length by its type.
+    let number = unsafe {
+        jermanuts_step_in(
+            file.as_ptr(),
+            file.len(),
+            session.as_mut_ptr(),
+            symbol,
+            out.as_mut_ptr(),
+            out.len(),
+            &mut count,
+            work.as_mut_ptr(),
+        )
+    };
+    (number, count)
+}
+
+/// The number, and the byte count.
+pub fn finish(file: &[u8], session: &[u8; SESSION], out: &mut [u8]) -> (u32, usize) {
+    let mut count = 0;
+    // SAFETY: as in `step`; the session is only read.
+    let number = unsafe {
+        jermanuts_finish(
+            file.as_ptr(),
+            file.len(),
+            session.as_ptr(),
+            out.as_mut_ptr(),
+            out.len(),
+            &mut count,
+        )
+    };
+    (number, count)
+}
+
+/// The number, and the byte count. Which table is bad is not handed on: both were checked.
+pub fn join(first: &[u8], second: &[u8], out: &mut [u8]) -> (u32, usize) {
+    let mut which = 0;
+    let mut count = 0;
+    // SAFETY: three slices; `out`, `which` and `count` are borrowed for writing, so they overlap
+    // nothing.
+    let number = unsafe {
+        jermanuts_join(
+            first.as_ptr(),
+            first.len(),
+            second.as_ptr(),
+            second.len(),
+            out.as_mut_ptr(),
+            out.len(),
+            &mut which,
+            &mut count,
+        )
+    };
+    (number, count)
+}
