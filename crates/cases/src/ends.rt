@@ -35,10 +35,10 @@ fn asked(file: &[u8], session: &[u8; SIZE], room: usize)
 }
 
 // An end that is lent so much of an output.
-fn lent(file: &[u8], session: &[u8; SIZE], out: &mut [u8], room: usize) -> engine::Ending
+fn lent(file: &[u8], session: &[u8; SIZE], out: &mut [u8], room: usize) -> ending::Ending
     requires { do ⌜ room ≤ (← ⟦out.len()⟧) ⌝ }
 {
-    engine::finish(file, session, &mut out[..room])
+    ending::finish(file, session, &mut out[..room])
 }
 
 // A message, and the end.

@@ -21,13 +21,14 @@ use Rattle.table.proofs.Stands.{good-table}
 use Rattle.session.specs.Sessions.{Entry, Session}
 use Rattle.session.specs.Bytes.{countOf, linkAt, entryAt, sessionOf}
 use Rattle.stepping.specs.Stepping.{grow, keep, kept, shaken}
-use Rattle.engine.specs.Drafts.{draftRoom, slotOf, draftIn, draftsOf, Drafts, Plain, AllAt, shakenOver}
-use Rattle.engine.specs.Growing.{Gathered, Usable, Fitting}
+use Rattle.drafting.specs.Drafts.{draftRoom, slotOf, draftIn, draftsOf, Drafts, Plain, AllAt, shakenOver}
+use Rattle.growing.specs.Growing.{Gathered, Usable, Fitting}
 use Rattle.stepping.specs.Promises.{Stepped}
-use Rattle.engine.specs.Tests.{Ready, Opened, Grew, Left}
+use Rattle.ending.specs.Finishing.{Ready}
+use Rattle.engine.specs.Tests.{Opened, Grew, Left}
 use Rattle.engine.proofs.Tested.{open-call, open-return, open-internal, unknown, unopened, too-deep, Moves}
 use Rattle.engine.proofs.Tested.{Fits, no-run, crowded, conflicting}
-use Rattle.engine.proofs.Drafted.{length-stacked}
+use Rattle.drafting.proofs.Drafted.{length-stacked}
 use Rattle.stepping.proofs.Keep.{keep-among, keep-linked}
 use Rattle.stepping.proofs.Grow.{grow-level}
 use Rattle.stepping.proofs.Shake.{kept-fewer}

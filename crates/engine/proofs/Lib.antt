@@ -1,22 +1,6 @@
 -- What follows of the definitions in `specs/`, one family of facts a file, each building on those before it.
 pub mod Tested
-pub mod Numbers
-pub mod Written
-pub mod Drafted
-pub mod Over
-pub mod Lowered
-pub mod Putting
-pub mod Turns
 pub mod Rewritten
-pub mod Groups
-pub mod Appended
-pub mod Pushing
-pub mod Beside
-pub mod Loaded
-pub mod Gathering
-pub mod Following
 pub mod Asked
 pub mod Ended
-pub mod Accepting
-pub mod Closing
 pub mod Telling

@@ -15,9 +15,9 @@ use Rattle.session.specs.Bytes.{linkStart, lengthStart, pieceStart, pieceRoom, 
 use Rattle.session.specs.Bytes.{linkBytes, bytesOf}
 use Rattle.session.specs.Numbers.{Tidy, Ready, Holds, Same, Put}
 use Rattle.session.proofs.Held.{held-same, same-all, same-then, none-kept, held-all, five-read}
-use Rattle.engine.specs.Drafts.{slotStart, draftRoom, lengthIn, pieceIn, slotOf, stacked, Drafts}
+use Rattle.drafting.specs.Drafts.{slotStart, draftRoom, lengthIn, pieceIn, slotOf, stacked, Drafts}
 use Rattle.engine.specs.Writing.{Cuts, cutSession, PutFrom, Written}
-use Rattle.engine.specs.Cutting.{cutDraft, cutDrafts}
+use Rattle.drafting.specs.Cutting.{cutDraft, cutDrafts}
 
 -- what is stacked, from the front
 pub length-stacked : {A : Type 0} (f : ℕ → A) (n : ℕ) → length (stacked f n) ≡ n

@@ -1,13 +1,11 @@
--- What the answers of the public calls stand for, and what they promise.
+-- What the answers of `step` stand for, and what it promises.
 use mathlib.Core.List.{List}
 use Prim.Native.Nat.{ℕ}
-use Rattle.stepping.specs.Promises.{Stepped, Finished}
+use Rattle.stepping.specs.Promises.{Stepped}
 use Rattle.engine.specs.declared.taking.Answer.{Answer}
 use Rattle.engine.specs.declared.taking.Answer.the-variants.{Taken, BadTable, BadSession, UnknownSymbol}
 use Rattle.engine.specs.declared.taking.Answer.the-variants.{Unopened, TooDeep, NoRun, Crowded, Conflict}
 use Rattle.engine.specs.declared.taking.Answer.the-variants.{Backlog, NoRoom}
-use Rattle.engine.specs.declared.finishing.Ending.{Ending}
-use Rattle.engine.specs.declared.finishing.Ending.the-variants as ending
 
 -- "Numbers given back", and the byte count, which is 0 for a refusal
 abbrev pub numberOf : Answer → ℕ
@@ -40,25 +38,3 @@ countOf NoRoom = 0
 abbrev pub Answered : List ℕ → List ℕ → ℕ → List ℕ → Answer → List ℕ → List ℕ → Type 0
 Answered file session symbol out r session′ out′ =
     Stepped file session symbol out (numberOf r) (countOf r) session′ out′
-
-abbrev pub endingNumber : Ending → ℕ
-endingNumber (ending.Taken n) = 0
-endingNumber ending.BadTable = 1
-endingNumber ending.BadSession = 2
-endingNumber ending.Unclosed = 11
-endingNumber ending.NotFinal = 12
-endingNumber ending.Ambiguous = 13
-endingNumber ending.NoRoom = 10
-
-abbrev pub endingCount : Ending → ℕ
-endingCount (ending.Taken n) = n
-endingCount ending.BadTable = 0
-endingCount ending.BadSession = 0
-endingCount ending.Unclosed = 0
-endingCount ending.NotFinal = 0
-endingCount ending.Ambiguous = 0
-endingCount ending.NoRoom = 0
-
--- what an answer of finish says, and what it leaves
-abbrev pub Ended : List ℕ → List ℕ → List ℕ → Ending → List ℕ → Type 0
-Ended file session out r out′ = Finished file session out (endingNumber r) (endingCount r) out′

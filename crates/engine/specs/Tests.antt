@@ -6,22 +6,15 @@ use Prim.Native.Nat.{ℕ, _<_, _≤_}
 use lib.Dec.{eqb}
 use lib.ListN.{length, getD, take}
 use Rattle.words.specs.Lists.{isEmpty}
-use Rattle.words.specs.Words.{Bytes}
 use Rattle.meaning.specs.Table.{unused, call, return, is, Table}
 use Rattle.meaning.specs.Answers.{linksCap, deeper}
 use Rattle.table.specs.File.{tableOf}
-use Rattle.table.specs.Good.{first, Good}
 use Rattle.session.specs.Sessions.{Session}
-use Rattle.session.specs.Bytes.{linkFrom, sessionOf, SoundBytes}
+use Rattle.session.specs.Bytes.{linkFrom, sessionOf}
 use Rattle.stepping.specs.Stepping.{grow, keep, conflict, kept, shaken, stepped, sent}
-use Rattle.engine.specs.Drafts.{slotStart, draftRoom, lengthIn, pieceIn, slotOf, draftsOf, Drafts}
-use Rattle.engine.specs.Cutting.{cutDrafts}
-
--- the file is good, of bytes as its type says, and the session is sound for its table
-pub record Ready (file session : List ℕ) : Type 0 where
-  pub good : Good first file
-  pub small : Bytes file
-  pub sound : SoundBytes (tableOf file) session
+use Rattle.drafting.specs.Drafts.{slotStart, draftRoom, lengthIn, pieceIn, slotOf, draftsOf, Drafts}
+use Rattle.drafting.specs.Cutting.{cutDrafts}
+use Rattle.ending.specs.Finishing.{Ready}
 
 -- the symbol is known, and neither closes nor opens too much
 pub record Open (T : Table) (S : Session) (a : ℕ) : Type 0 where

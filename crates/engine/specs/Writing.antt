@@ -7,8 +7,8 @@ use Rattle.meaning.specs.Answers.{linksCap}
 use Rattle.session.specs.Sessions.{Entry, Session}
 use Rattle.session.specs.Bytes.{pieceRoom, noEntry, linkBytes}
 use Rattle.session.specs.Numbers.{Holds, Same, Put}
-use Rattle.engine.specs.Drafts.{lengthIn, slotOf, Drafts}
-use Rattle.engine.specs.Cutting.{cutDrafts}
+use Rattle.drafting.specs.Drafts.{lengthIn, slotOf, Drafts}
+use Rattle.drafting.specs.Cutting.{cutDrafts}
 
 -- cuts that leave of each drafted piece no more than a session has places for
 pub record Cuts (work order cuts : List ℕ) (n : ℕ) : Type 0 where

@@ -1,8 +1,9 @@
 // What answers say in numbers, for whoever prints them or hands them on.
-use crate::finishing::Ending;
 use crate::taking::Answer;
+use ending::Ending;
 ghost use mathlib.Core.Path.{_≡_};
-ghost use Rattle.engine.specs.Calls.{numberOf, countOf, endingNumber, endingCount};
+ghost use Rattle.ending.specs.Calls.{endingNumber, endingCount};
+ghost use Rattle.engine.specs.Calls.{numberOf, countOf};
 
 // The number given back, and the byte count.
 pub struct Said {

@@ -1,18 +1,19 @@
 // One step: the tests in their order, each after the work that it needs. The session and the output are written only
 // once all have passed.
-use crate::cutting;
-use crate::growth;
-use crate::lower;
-use crate::settling;
-use crate::slots;
-use crate::slots::WORK;
 use crate::write;
+use drafting::cutting;
+use drafting::lower;
+use drafting::settling;
+use drafting::slots;
+use drafting::slots::WORK;
+use growing::growth;
 use session::places;
 use session::places::SIZE;
 ghost use Rattle.words.specs.Words.{Bytes};
 ghost use Rattle.table.specs.Good.{first, Good};
+ghost use Rattle.ending.specs.Finishing.{Ready};
 ghost use Rattle.engine.specs.Calls.{Answered};
-ghost use Rattle.engine.specs.Tests.{Ready, Opened, Grew, Left, Settled};
+ghost use Rattle.engine.specs.Tests.{Opened, Grew, Left, Settled};
 
 // What `step` answers.
 pub enum Answer {
@@ -237,7 +238,7 @@ fn on_settled(
         return Answer::NoRoom;
     }
     let piece = slots::piece(work, slot);
-    write::send(out, &piece[0..long]);
+    ending::send(out, &piece[0..long]);
     write::write(session, work, order, n, cuts, depth);
     Answer::Taken { count: long }
 }

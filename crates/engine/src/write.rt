@@ -1,26 +1,15 @@
-// What a step leaves: the session written over the one before, from the drafts, and the bytes that are sent.
-use crate::slots;
-use crate::slots::WORK;
+// What a step leaves: the session written over the one before, from the drafts.
+use drafting::slots;
+use drafting::slots::WORK;
 use session::places;
 use session::places::SIZE;
-use words::copy;
 use words::larger;
 ghost use mathlib.Core.Path.{_≡_};
-ghost use mathlib.Core.List.{_++_};
 ghost use Prim.Native.Nat.{ℕ, _≤_, _<_};
-ghost use lib.ListN.{length, drop};
 ghost use Rattle.session.specs.Bytes.{Kept, bytesOf};
 ghost use Rattle.session.specs.Numbers.{Tidy};
 ghost use Rattle.engine.specs.Writing.{Cuts, cutSession, PutFrom, Written};
-ghost use Rattle.engine.specs.Cutting.{cutDrafts};
-
-// The bytes that are sent, from the output's start.
-pub fn send(out: &mut [u8], part: &[u8])
-    requires { ⌜ length (now part) ≤ length (now out) ⌝ }
-    ensures { λ _. ⌜ now (out .exit) ≡ now (part .entry) ++ drop (length (now (part .entry))) (now (out .entry)) ⌝ }
-{
-    copy(out, 0, part);
-}
+ghost use Rattle.drafting.specs.Cutting.{cutDrafts};
 
 // The drafts, each cut, become the session. Places that only the one before used are set to 0, and no others are: most
 // places of a session are not used.

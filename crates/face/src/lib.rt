@@ -80,7 +80,7 @@ pub extern "C" fn jermanuts_finish(
         Finished (now (file .entry)) (now (session .entry)) (now (out .entry)) r (now (count .exit))
         (now (out .exit)) ⌝ }
 {
-    let said = said_by_finish(engine::finish(file, session, out));
+    let said = said_by_finish(ending::finish(file, session, out));
     *count = said.count;
     said.number as u32
 }

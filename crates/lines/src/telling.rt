@@ -57,7 +57,7 @@ pub fn put_end(
         EndTold (now (file .entry)) (now (session .entry)) (now (out .entry)) (now (text .entry)) at r
         (now (out .exit)) (now (text .exit)) ⌝ }
 {
-    let said = said_by_finish(engine::finish(file, session, out));
+    let said = said_by_finish(ending::finish(file, session, out));
     let number = said.number;
     let count = said.count;
     put_ending(text, at, number, &out[..count])

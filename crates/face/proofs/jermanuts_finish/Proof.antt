@@ -1,5 +1,5 @@
 -- `face::jermanuts_finish` meets its contract. Assumes nothing.
-use Rattle.engine.proofs.Telling.{said-finished}
+use Rattle.ending.proofs.Telling.{said-finished}
 use borrow.Author.Needs.{needs}
 use Rattle.face.proofs.jermanuts_finish.Statement.{statement}
 use Rattle.face.proofs.jermanuts_finish.Tie as tie

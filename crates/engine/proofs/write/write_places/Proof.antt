@@ -5,7 +5,7 @@ use native.Mathlib.Omega.{arith}
 use borrow.Author.Needs.{needs}
 use Rattle.session.proofs.Held.{tidy-same}
 use Rattle.engine.specs.Writing.{Written}
-use Rattle.engine.specs.Cutting.{cutDrafts}
+use Rattle.drafting.specs.Cutting.{cutDrafts}
 use Rattle.engine.proofs.Rewritten.{written-none, written-more}
 use Rattle.engine.proofs.write.write_places.Statement.{statement}
 use Rattle.engine.proofs.write.write_places.Tie as tie

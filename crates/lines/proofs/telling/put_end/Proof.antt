@@ -4,7 +4,7 @@ use native.Mathlib.Omega.{arith}
 use lib.ListN.{length, take}
 use lib.Seq.{length-take-le}
 use borrow.Author.Needs.{needs}
-use Rattle.engine.proofs.Telling.{said-finished}
+use Rattle.ending.proofs.Telling.{said-finished}
 use Rattle.lines.proofs.Lined.{rest-within, ending-room}
 use Rattle.lines.proofs.telling.put_end.Statement.{statement}
 use Rattle.lines.proofs.telling.put_end.Tie as tie

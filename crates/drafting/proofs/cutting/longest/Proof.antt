@@ -1,0 +1,53 @@
+-- `drafting::cutting::longest` meets its contract: the drafts before i are weighed. Assumes nothing.
+use Prim.Native.Nat.{_-_, _≤_}
+use native.Mathlib.Omega.{arith}
+use Rattle.drafting.specs.Cutting.{CutWeighed}
+use Rattle.drafting.proofs.Loaded.{with-longest, load-start}
+use borrow.Author.Needs.{needs}
+use Rattle.drafting.proofs.cutting.longest.Statement.{statement}
+use Rattle.drafting.proofs.cutting.longest.Tie as tie
+
+abbrev Inv-loop : tie.InvT-loop
+Inv-loop work order n cuts loads₀ i₀ loads i = (i ≤ n) × CutWeighed work order cuts loads i
+
+abbrev μ-loop : tie.MeasureT-loop
+μ-loop work order n cuts loads₀ i₀ loads i = n - i
+
+loop-holds : tie.Need-loop-holds Inv-loop μ-loop
+loop-holds c = (omega arith, load-start _ _ _ _)
+
+weigh-requires : tie.Need-weigh-requires Inv-loop μ-loop
+weigh-requires c κs =
+    let at-loop = c .before .before in
+    ((at-loop .before .pre, omega arith), at-loop .loop .inv .1)
+
+add-i : tie.Need-add-i Inv-loop μ-loop
+add-i c = search needs
+
+loop-less : tie.Need-loop-less Inv-loop μ-loop
+loop-less c = search needs
+
+loop-again : tie.Need-loop-again Inv-loop μ-loop
+loop-again c = (omega arith, c .weigh .ensures)
+
+most-on-requires : tie.Need-most-on-requires Inv-loop μ-loop
+most-on-requires c κs = (c .before .before .before .pre .drafts, omega arith)
+
+returns : tie.Need-returns Inv-loop μ-loop
+returns c =
+    let at-loop = c .before .before .before in
+    with-longest (at-loop .before .pre) (at-loop .loop .inv .1) (omega arith) (c .most-on .ensures)
+
+pub longest-spec : {M : Type 1} → statement M
+longest-spec =
+    tie.close
+    (tie.spec
+    Inv-loop
+    μ-loop
+    loop-holds
+    weigh-requires
+    add-i
+    loop-less
+    loop-again
+    most-on-requires
+    returns)

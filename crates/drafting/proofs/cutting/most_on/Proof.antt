@@ -1,0 +1,95 @@
+-- `drafting::cutting::most_on` meets its contract: the drafts before j are looked at. Assumes nothing.
+use mathlib.Core.Path.{_≡_, sym, _∙_, ap}
+use mathlib.Core.Logic.{⊎-elim}
+use Prim.Native.Nat.{ℕ, _-_, _≤_}
+use native.Mathlib.Omega.{arith}
+use Rattle.session.specs.Numbers.{footFrom}
+use Rattle.drafting.specs.Drafts.{slotStart, slotOf}
+use Rattle.drafting.specs.Cutting.{mostWith}
+use Rattle.drafting.proofs.Loaded.{most-start, most-met, most-past}
+use borrow.Author.Needs.{needs}
+use Rattle.drafting.proofs.cutting.most_on.Statement.{statement}
+use Rattle.drafting.proofs.cutting.most_on.Tie as tie
+
+abbrev Inv-loop : tie.InvT-loop
+Inv-loop work order n loads below i most₀ j₀ most j = (j ≤ i) × (most ≡ mostWith work order loads below j)
+
+abbrev μ-loop : tie.MeasureT-loop
+μ-loop work order n loads below i most₀ j₀ most j = i - j
+
+loop-holds : tie.Need-loop-holds Inv-loop μ-loop
+loop-holds c = (omega arith, sym (most-start _ _ _ _))
+
+slot-requires : tie.Need-slot-requires Inv-loop μ-loop
+slot-requires c κs = let few = c .before .before .pre .0 .few in omega arith
+
+foot-requires : tie.Need-foot-requires Inv-loop μ-loop
+foot-requires c κs =
+    let at-loop = c .before .before in
+    let drafts = at-loop .before .pre .0 in
+    omega (arith, drafts .few, drafts .within (at-loop .loop .j) (omega arith))
+
+-- the foot that is compared is that of the j-th draft
+foot-of : (c : tie.After-foot Inv-loop μ-loop) →
+    let at-loop = c .before .before .before in
+    let args = at-loop .before .args in
+    c .foot .result ≡ footFrom (args .work .now) (slotStart (slotOf (args .order .now) (at-loop .loop .j)))
+foot-of c =
+    let work = c .before .before .before .before .args .work .now in
+    c .foot .ensures ∙ ap (λ (s : ℕ). footFrom work (slotStart s)) (c .before .slot .ensures .0)
+
+mul-larger : tie.Need-mul-larger Inv-loop μ-loop
+mul-larger c = search needs
+
+element-copy-out-larger : tie.Need-element-copy-out-larger Inv-loop μ-loop
+element-copy-out-larger c = search needs
+
+larger-requires : tie.Need-larger-requires Inv-loop μ-loop
+larger-requires c κs = search needs
+
+add-j : tie.Need-add-j Inv-loop μ-loop
+add-j c = search needs
+
+loop-less : tie.Need-loop-less Inv-loop μ-loop
+loop-less c = search needs
+
+loop-again : tie.Need-loop-again Inv-loop μ-loop
+loop-again c =
+    let at-loop = c .before .before .before .before in
+    let args = at-loop .before .args in
+    let work = args .work .now in
+    let order = args .order .now in
+    let foot = foot-of (c .before) in
+    let inv = at-loop .loop .inv in (
+      omega arith,
+      ⊎-elim
+          (λ w.
+          omega (arith, most-met work order (args .loads .now) (args .below) (at-loop .loop .j) (omega arith), inv .1))
+          (λ w.
+          omega
+          (arith, most-past work order (args .loads .now) (args .below) (at-loop .loop .j) (λ e. omega arith), inv .1))
+          (c .if1 .came),
+    )
+
+returns : tie.Need-returns Inv-loop μ-loop
+returns c =
+    let args = c .before .before .args in
+    c .before .loop .inv .1
+    ∙ ap (mostWith (args .work .now) (args .order .now) (args .loads .now) (args .below)) (omega arith)
+
+pub most-on-spec : {M : Type 1} → statement M
+most-on-spec =
+    tie.close
+    (tie.spec
+    Inv-loop
+    μ-loop
+    loop-holds
+    slot-requires
+    foot-requires
+    mul-larger
+    element-copy-out-larger
+    larger-requires
+    add-j
+    loop-less
+    loop-again
+    returns)

@@ -1,0 +1,94 @@
+-- `drafting::cutting::weigh` meets its contract: what is left of the piece and what stands on it are the load. Assumes
+-- nothing.
+use mathlib.Core.Path.{_≡_, _∙_, ap}
+use Prim.Native.Nat.{ℕ, _+_, _-_}
+use native.Mathlib.Omega.{arith}
+use lib.ListN.{getD}
+use Rattle.session.specs.Numbers.{seatFrom}
+use Rattle.drafting.specs.Drafts.{slotStart, lengthIn, slotOf}
+use Rattle.drafting.specs.Cutting.{cutLoad}
+use Rattle.drafting.proofs.Loaded.{cut-load-small, with-above, load-next}
+use borrow.Author.Needs.{needs}
+use Rattle.drafting.proofs.cutting.weigh.Statement.{statement}
+use Rattle.drafting.proofs.cutting.weigh.Tie as tie
+
+slot-requires : tie.Need-slot-requires
+slot-requires c κs = search needs
+
+seat-requires : tie.Need-seat-requires
+seat-requires c κs =
+    let pre = c .before .before .pre .0 in
+    omega (arith, pre .0 .drafts .few, pre .0 .drafts .within _ (pre .1))
+
+most-on-requires : tie.Need-most-on-requires
+most-on-requires c κs = search needs
+
+length-requires : tie.Need-length-requires
+length-requires c κs =
+    let pre = c .before .before .before .before .pre .0 in
+    omega (arith, pre .0 .drafts .few, pre .0 .drafts .within _ (pre .1))
+
+mul-own : tie.Need-mul-own
+mul-own c = search needs
+
+element-copy-out-own : tie.Need-element-copy-out-own
+element-copy-out-own c = search needs
+
+length-of : (c : tie.After-length) →
+    let args = c .before .before .before .before .before .args in
+    c .length .result ≡ lengthIn (args .work .now) (slotOf (args .order .now) (args .i))
+length-of c =
+    let after-slot = c .before .before .before .before in
+    c .length .ensures .0 ∙ ap (lengthIn (after-slot .before .args .work .now)) (after-slot .slot .ensures .0)
+
+sub-own : tie.Need-sub-own
+sub-own c =
+    let pre = c .before .before .before .before .before .before .pre .0 in
+    omega (arith, length-of (c .before), pre .0 .enough _ (pre .1))
+
+load : (c : tie.After-all) →
+    let args = c .before .before .before .before .before .before .before .args in
+    c .before .before .length .result - getD (args .cuts .now) (args .i) 0 + c .before .before .before .most-on .result
+    ≡ cutLoad (args .work .now) (args .order .now) (args .cuts .now) (args .i)
+load c =
+    let after-most = c .before .before .before in
+    let after-slot = after-most .before .before .before in
+    let args = after-slot .before .args in
+    let pre = after-slot .before .pre in
+    with-above (pre .0 .0) (args .i) (pre .0 .1) (pre .1)
+    (after-most .before .seat .ensures
+    ∙ ap (λ (s : ℕ). seatFrom (args .work .now) (slotStart s)) (after-slot .slot .ensures .0))
+    (ap (λ (k : ℕ). k - getD (args .cuts .now) (args .i) 0) (length-of (c .before .before)))
+    (after-most .most-on .ensures)
+
+add-all : tie.Need-add-all
+add-all c =
+    let pre = c .before .before .before .before .before .before .before .pre .0 in
+    omega (arith, load c, pre .0 .drafts .few, cut-load-small (pre .0) _ (pre .1))
+
+mul-all : tie.Need-mul-all
+mul-all c = search needs
+
+slice-write-all : tie.Need-slice-write-all
+slice-write-all c = search needs
+
+returns : tie.Need-returns
+returns c =
+    let pre = c .before .before .before .before .before .before .before .pre in
+    load-next _ (pre .1) (omega (arith, pre .0 .0 .drafts .few)) (load c)
+
+pub weigh-spec : {M : Type 1} → statement M
+weigh-spec =
+    tie.close
+    (tie.spec
+    slot-requires
+    seat-requires
+    most-on-requires
+    length-requires
+    mul-own
+    element-copy-out-own
+    sub-own
+    add-all
+    mul-all
+    slice-write-all
+    returns)

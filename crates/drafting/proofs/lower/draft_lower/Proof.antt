@@ -1,0 +1,57 @@
+-- `drafting::lower::draft_lower` meets its contract: the filled slot, read last, is one draft more. Assumes nothing.
+use native.Mathlib.Omega.{arith}
+use Rattle.drafting.proofs.Lowered.{piece-fits, lower-more}
+use borrow.Author.Needs.{needs}
+use Rattle.drafting.proofs.lower.draft_lower.Statement.{statement}
+use Rattle.drafting.proofs.lower.draft_lower.Tie as tie
+
+piece-requires : tie.Need-piece-requires
+piece-requires c κs =
+    let kept = c .pre .0 in
+    (omega (arith, kept .count), kept .short _ (c .pre .1))
+
+sub-none : tie.Need-sub-none
+sub-none c = search needs
+
+part-none-start : tie.Need-part-none-start
+part-none-start c = search needs
+
+part-none-end : tie.Need-part-none-end
+part-none-end c = search needs
+
+key-requires : tie.Need-key-requires
+key-requires c κs = search needs
+
+fill-requires : tie.Need-fill-requires
+fill-requires c κs =
+    let after-piece = c .before .before .before in
+    let pre = after-piece .before .pre in
+    (pre .3, c .key .ensures .1, omega (arith, piece-fits _ (pre .0) (pre .1) (after-piece .piece .ensures)))
+
+cast-order : tie.Need-cast-order
+cast-order c = search needs
+
+element-write-order : tie.Need-element-write-order
+element-write-order c = search needs
+
+returns : tie.Need-returns
+returns c =
+    let after-key = c .before in
+    let after-piece = after-key .before .before .before in
+    let pre = after-piece .before .pre in
+    lower-more _ (pre .0) (pre .1) (pre .2) (pre .3) (after-piece .piece .ensures) (after-key .key .ensures .0)
+    (c .fill .ensures)
+
+pub draft-lower-spec : {M : Type 1} → statement M
+draft-lower-spec =
+    tie.close
+    (tie.spec
+    piece-requires
+    sub-none
+    part-none-start
+    part-none-end
+    key-requires
+    fill-requires
+    cast-order
+    element-write-order
+    returns)

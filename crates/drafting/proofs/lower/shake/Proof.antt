@@ -1,0 +1,90 @@
+-- `drafting::lower::shake` meets its contract: the lower links from i on that stay are drafted. Assumes nothing.
+use mathlib.Core.Path.{sym, _∙_}
+use mathlib.Core.Bool.{false≢true}
+use native.Mathlib.Omega.{arith}
+use Rattle.drafting.specs.Drafts.{draftsOf}
+use Rattle.drafting.proofs.Lowered.{Shaking, shaking-start, shaking-met, shaking-past, shaking-full, shaking-end}
+use borrow.Author.Needs.{needs}
+use Rattle.drafting.proofs.lower.shake.Statement.{statement}
+use Rattle.drafting.proofs.lower.shake.Tie as tie
+
+abbrev Inv-loop : tie.InvT-loop
+Inv-loop session depth work₀ order₀ n count₀ i₀ work order count i =
+    Shaking session depth (draftsOf work₀ order₀ n) i work order count
+
+abbrev μ-loop : tie.MeasureT-loop
+μ-loop session depth work₀ order₀ n count₀ i₀ work order count i = i
+
+count-requires : tie.Need-count-requires Inv-loop μ-loop
+count-requires c κs = search needs
+
+loop-holds : tie.Need-loop-holds Inv-loop μ-loop
+loop-holds c = let pre = c .before .pre in shaking-start _ (pre .0 .1) (pre .1) (c .count .ensures .0)
+
+sub-i : tie.Need-sub-i Inv-loop μ-loop
+sub-i c = search needs
+
+stays-requires : tie.Need-stays-requires Inv-loop μ-loop
+stays-requires c κs =
+    let at-loop = c .before .before .before in
+    (omega (arith, at-loop .loop .inv .within, at-loop .before .before .pre .0 .0 .count), at-loop .loop .inv .drafts)
+
+returns : tie.Need-returns Inv-loop μ-loop
+returns c =
+    let after-stays = c .before .before in
+    let at-loop = after-stays .before .before .before .before in
+    shaking-full (at-loop .before .before .pre .0 .0 .small) (at-loop .loop .inv) _ (omega arith)
+    (after-stays .stays .ensures .1 (c .before .if1 .taken)) (omega arith)
+
+draft-lower-requires : tie.Need-draft-lower-requires Inv-loop μ-loop
+draft-lower-requires c κs =
+    let at-loop = c .before .before .before .before .before .before .before .before in
+    let inv = at-loop .loop .inv in
+    let ok = inv .drafts in
+    (at-loop .before .before .pre .0 .0, omega (arith, inv .within), ok, omega (arith, ok .few))
+
+add-count : tie.Need-add-count Inv-loop μ-loop
+add-count c = search needs
+
+loop-less : tie.Need-loop-less Inv-loop μ-loop
+loop-less c = search needs
+
+loop-again : tie.Need-loop-again Inv-loop μ-loop
+loop-again c =
+    let then = c .before .before .before .before in
+    let after-stays = then .before in
+    let at-loop = after-stays .before .before .before .before in
+    shaking-met (at-loop .before .before .pre .0 .0 .small) (at-loop .loop .inv) _ (omega arith)
+    (after-stays .stays .ensures .1 (then .if1 .taken)) (c .draft-lower .ensures)
+
+loop-less-2 : tie.Need-loop-less-2 Inv-loop μ-loop
+loop-less-2 c = search needs
+
+loop-again-2 : tie.Need-loop-again-2 Inv-loop μ-loop
+loop-again-2 c =
+    let after-stays = c .before in
+    let at-loop = after-stays .before .before .before .before in
+    shaking-past (at-loop .before .before .pre .0 .0 .small) (at-loop .loop .inv) _ (omega arith)
+    (λ h. false≢true (sym (c .if1 .left) ∙ after-stays .stays .ensures .0 h))
+
+returns-2 : tie.Need-returns-2 Inv-loop μ-loop
+returns-2 c = let inv = c .before .loop .inv in (inv .drafts, shaking-end inv (omega arith))
+
+pub shake-spec : {M : Type 1} → statement M
+shake-spec =
+    tie.close
+    (tie.spec
+    Inv-loop
+    μ-loop
+    count-requires
+    loop-holds
+    sub-i
+    stays-requires
+    returns
+    draft-lower-requires
+    add-count
+    loop-less
+    loop-again
+    loop-less-2
+    loop-again-2
+    returns-2)

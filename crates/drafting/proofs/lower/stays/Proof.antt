@@ -1,0 +1,26 @@
+-- `drafting::lower::stays` meets its contract. Assumes nothing.
+use native.Mathlib.Omega.{arith}
+use Rattle.words.proofs.Exact.{no-exact, exact-as}
+use borrow.Author.Needs.{needs}
+use Rattle.drafting.proofs.lower.stays.Statement.{statement}
+use Rattle.drafting.proofs.lower.stays.Tie as tie
+
+level-requires : tie.Need-level-requires
+level-requires c κs = search needs
+
+returns : tie.Need-returns
+returns c = no-exact (λ h. omega (arith, h .0))
+
+seat-requires : tie.Need-seat-requires
+seat-requires c κs = search needs
+
+carried-requires : tie.Need-carried-requires
+carried-requires c κs = search needs
+
+returns-2 : tie.Need-returns-2
+returns-2 c =
+    let seat = c .before .seat .ensures in
+    exact-as (λ h. (omega arith, rw seat at h), λ h. rw (← seat) at (h .1)) (c .carried .ensures)
+
+pub stays-spec : {M : Type 1} → statement M
+stays-spec = tie.close (tie.spec level-requires returns seat-requires carried-requires returns-2)

@@ -1,0 +1,67 @@
+-- `drafting::settling::push_one` meets its contract: what is put at the end is what was asked for. Assumes nothing.
+use mathlib.Core.Path.{sym, ap}
+use mathlib.Core.Logic.{⊎-elim}
+use lib.ListN.{set}
+use native.Mathlib.Omega.{arith}
+use borrow.Author.Needs.{needs}
+use Rattle.drafting.proofs.Groups.{holds}
+use Rattle.drafting.proofs.Pushing.{reads-less, own-holds, their-holds, not-own, has-room, above-length}
+use Rattle.drafting.proofs.Pushing.{pushed-none, pushed-some}
+use Rattle.drafting.proofs.settling.push_one.Statement.{statement}
+use Rattle.drafting.proofs.settling.push_one.Tie as tie
+
+slot-requires : tie.Need-slot-requires
+slot-requires c κs = search needs
+
+seat-requires : tie.Need-seat-requires
+seat-requires c κs = holds (c .before .before .pre .0) (omega arith) (c .before .slot .ensures .0) .within
+
+common-on-requires : tie.Need-common-on-requires
+common-on-requires c κs = reads-less (c .before .before .before .pre .0)
+
+append-requires : tie.Need-append-requires
+append-requires c κs =
+    let after-common = c .before .before in
+    let after-seat = after-common .before in
+    let after-slot = after-seat .before .before in
+    let pre = after-slot .before .pre in
+    let is = after-slot .slot .ensures .0 in
+    let at = after-seat .seat .ensures in
+    let common = after-common .common-on .ensures in
+    let p = c .before .if1 .taken in (
+      (own-holds (pre .0) is at common, their-holds (pre .0) is at common p, not-own (pre .0) is at common p),
+      (common .short, has-room (pre .0) is at common (pre .1)),
+    )
+
+mul-all : tie.Need-mul-all
+mul-all c = search needs
+
+slice-write-all : tie.Need-slice-write-all
+slice-write-all c = search needs
+
+returns : tie.Need-returns
+returns c =
+    let after-common = c .before .before in
+    let after-seat = after-common .before in
+    let after-slot = after-seat .before .before in
+    let pre = after-slot .before .pre in
+    let is = after-slot .slot .ensures .0 in
+    let at = after-seat .seat .ensures in
+    let common = after-common .common-on .ensures in
+    let args = after-slot .before .args in (
+      ⊎-elim (λ w. rw (w .3) (pushed-some (pre .0) is at common (pre .1) (w .2 .ensures)))
+          (λ w. rw (w .1) (pushed-none (pre .0) is at common (omega (arith, w .0 .left)))) (c .before .if1 .came),
+      (ap (set (args .handed .now) (args .i)) (sym (above-length (pre .0) is at common)), omega arith),
+    )
+
+pub push-one-spec : {M : Type 1} → statement M
+push-one-spec =
+    tie.close
+    (tie.spec
+    slot-requires
+    seat-requires
+    common-on-requires
+    append-requires
+    mul-all
+    slice-write-all
+    returns)

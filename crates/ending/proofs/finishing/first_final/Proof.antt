@@ -1,0 +1,82 @@
+-- `ending::finishing::first_final` meets its contract: the links passed have other states. Assumes nothing.
+use mathlib.Core.Path.{_≡_, sym, ap, _∙_}
+use mathlib.Core.Bool.{false}
+use Prim.Native.Nat.{ℕ, _-_, _≤_, _<_}
+use native.Mathlib.Omega.{arith}
+use borrow.Author.Count.{below-more}
+use borrow.Author.Needs.{needs}
+use Rattle.table.specs.Sets.{isIn}
+use Rattle.ending.specs.Finishing.{finalAt}
+use Rattle.ending.proofs.finishing.first_final.Statement.{statement}
+use Rattle.ending.proofs.finishing.first_final.Tie as tie
+
+abbrev Inv-loop : tie.InvT-loop
+Inv-loop finals session n i₀ i = (i ≤ n) × ((k : ℕ) → k < i → finalAt finals session k ≡ false)
+
+abbrev μ-loop : tie.MeasureT-loop
+μ-loop finals session n i₀ i = n - i
+
+count-requires : tie.Need-count-requires Inv-loop μ-loop
+count-requires c κs = search needs
+
+loop-holds : tie.Need-loop-holds Inv-loop μ-loop
+loop-holds c = (omega arith, λ k lt. absurd (omega arith))
+
+state-requires : tie.Need-state-requires Inv-loop μ-loop
+state-requires c κs = search needs
+
+has-requires : tie.Need-has-requires Inv-loop μ-loop
+has-requires c κs = search needs
+
+-- what is looked at is the state of the link
+looked : (c : tie.After-has Inv-loop μ-loop) →
+    let at-loop = c .before .before .before in
+    let args = at-loop .before .before .args in
+    c .has .result ≡ finalAt (args .finals) (args .session .now) (at-loop .loop .i)
+looked c =
+    let args = c .before .before .before .before .before .args in
+    c .has .ensures ∙ ap (isIn (args .finals)) (c .before .state .ensures .0)
+
+returns : tie.Need-returns Inv-loop μ-loop
+returns c =
+    record {
+      within = omega arith;
+      before = c .before .before .before .before .loop .inv .1;
+      here = λ lt. sym (looked (c .before)) ∙ c .if1 .taken;
+    }
+
+add-i : tie.Need-add-i Inv-loop μ-loop
+add-i c = search needs
+
+loop-less : tie.Need-loop-less Inv-loop μ-loop
+loop-less c = search needs
+
+loop-again : tie.Need-loop-again Inv-loop μ-loop
+loop-again c = (
+  omega arith,
+  below-more _ _ (c .before .before .before .before .loop .inv .1) (sym (looked (c .before)) ∙ c .if1 .left),
+)
+
+returns-2 : tie.Need-returns-2 Inv-loop μ-loop
+returns-2 c =
+    record {
+      within = omega arith;
+      before = λ k lt. c .before .loop .inv .1 k (omega arith);
+      here = λ lt. absurd (omega arith);
+    }
+
+pub first-final-spec : {M : Type 1} → statement M
+first-final-spec =
+    tie.close
+    (tie.spec
+    Inv-loop
+    μ-loop
+    count-requires
+    loop-holds
+    state-requires
+    has-requires
+    returns
+    add-i
+    loop-less
+    loop-again
+    returns-2)

@@ -1,0 +1,126 @@
+// The end of a message: whether it is accepted, and what still waits. No session is changed.
+use crate::sending;
+use session::places;
+use session::places::SIZE;
+use table::sets;
+use words::same;
+ghost use Prim.Native.Nat.{_<_};
+ghost use Rattle.words.specs.Words.{Bytes};
+ghost use Rattle.words.specs.Lists.{Exact};
+ghost use Rattle.table.specs.Good.{first, Good};
+ghost use Rattle.session.specs.Bytes.{countOf};
+ghost use Rattle.session.specs.Numbers.{Measured};
+ghost use Rattle.ending.specs.Calls.{Ended};
+ghost use Rattle.ending.specs.Finishing.{Ready, FirstFinal, LikeAt, Like, Found};
+
+// What `finish` answers.
+pub enum Ending {
+    Taken { count: usize },
+    BadTable,
+    BadSession,
+    Unclosed,
+    NotFinal,
+    Ambiguous,
+    NoRoom,
+}
+
+// Ends a message: writes what still waits, if all runs that accept agree on it.
+pub fn finish(file: &[u8], session: &[u8; SIZE], out: &mut [u8]) -> Ending
+    ensures { λ r. ⌜
+        Ended (now (file .entry)) (now (session .entry)) (now (out .entry)) r (now (out .exit)) ⌝ }
+{
+    match table::check(file) {
+        table::Verdict::BadTable => Ending::BadTable,
+        table::Verdict::Taken => of_table(file, session, out),
+    }
+}
+
+// With a good table.
+fn of_table(file: &[u8], session: &[u8; SIZE], out: &mut [u8]) -> Ending
+    requires { ⌜ (Good first (now file)) × Bytes (now file) ⌝ }
+    ensures { λ r. ⌜
+        Ended (now (file .entry)) (now (session .entry)) (now (out .entry)) r (now (out .exit)) ⌝ }
+{
+    if !session::sound(file, session) {
+        return Ending::BadSession;
+    }
+    of_session(file, session, out)
+}
+
+// And a sound session: whether it is closed, and where the first run that accepts is.
+fn of_session(file: &[u8], session: &[u8; SIZE], out: &mut [u8]) -> Ending
+    requires { ⌜ Ready (now file) (now session) ⌝ }
+    ensures { λ r. ⌜
+        Ended (now (file .entry)) (now (session .entry)) (now (out .entry)) r (now (out .exit)) ⌝ }
+{
+    if places::depth(session) != 0 {
+        return Ending::Unclosed;
+    }
+    let finals = table::final_set(file);
+    let i = first_final(finals, session);
+    if i == places::count(session) {
+        return Ending::NotFinal;
+    }
+    of_link(file, session, out, finals, i)
+}
+
+// And a link that accepts, the first: whether all others that accept have the same waiting.
+fn of_link(file: &[u8], session: &[u8; SIZE], out: &mut [u8], finals: u64, i: usize) -> Ending
+    requires { ⌜ Found (now file) (now session) finals i ⌝ }
+    ensures { λ r. ⌜
+        Ended (now (file .entry)) (now (session .entry)) (now (out .entry)) r (now (out .exit)) ⌝ }
+{
+    if !like(finals, session, i) {
+        return Ending::Ambiguous;
+    }
+    let rest = places::piece(session, i);
+    let count = rest.len();
+    if out.len() < count {
+        return Ending::NoRoom;
+    }
+    sending::send(out, rest);
+    Ending::Taken { count }
+}
+
+// The first link whose state is in a set; the number of links where there is none.
+fn first_final(finals: u64, session: &[u8; SIZE]) -> usize
+    requires { ⌜ Measured (now session) ⌝ }
+    ensures { λ r. ⌜ FirstFinal finals (now (session .entry)) r ⌝ }
+{
+    let n = places::count(session);
+    let mut i: usize = 0;
+    while i < n {
+        if sets::has(finals, places::state(session, i)) {
+            return i;
+        }
+        i += 1;
+    }
+    n
+}
+
+// Whether a link has a state outside the set, or the same piece as another.
+fn like_at(finals: u64, session: &[u8; SIZE], i: usize, j: usize) -> bool
+    requires { ⌜ Measured (now session) × (i < countOf (now session)) × (j < countOf (now session)) ⌝ }
+    ensures { λ r. ⌜ Exact (LikeAt finals (now (session .entry)) i j) r ⌝ }
+{
+    if !sets::has(finals, places::state(session, j)) {
+        return true;
+    }
+    same(places::piece(session, j), places::piece(session, i))
+}
+
+// Whether all links after one are like it.
+fn like(finals: u64, session: &[u8; SIZE], i: usize) -> bool
+    requires { ⌜ Measured (now session) × (i < countOf (now session)) ⌝ }
+    ensures { λ r. ⌜ Exact (Like finals (now (session .entry)) i) r ⌝ }
+{
+    let n = places::count(session);
+    let mut j = i + 1;
+    while j < n {
+        if !like_at(finals, session, i, j) {
+            return false;
+        }
+        j += 1;
+    }
+    true
+}

@@ -1,0 +1,138 @@
+-- `growing::growth::by_rows` meets its contract: what the rows passed give was made. Assumes nothing.
+use mathlib.Core.Path.{_≡_, sym}
+use Prim.Native.Nat.{_-_, _<_, _≤_}
+use native.Mathlib.Omega.{arith}
+use Rattle.table.specs.File.{rowCount}
+use Rattle.table.specs.Calls.{meant}
+use Rattle.table.proofs.Symbols.{symbols-up}
+use Rattle.growing.specs.Growing.{byClass, byRow}
+use Rattle.growing.proofs.Gathering.{Passing, passing-ready, passing-next, gathers-none, gathers-as, fitting-as}
+use Rattle.growing.proofs.Following.{by-class, rows-none, rows-start, rows-end, rows-fitting}
+use borrow.Author.Needs.{needs}
+use Rattle.growing.proofs.growth.by_rows.Statement.{statement}
+use Rattle.growing.proofs.growth.by_rows.Tie as tie
+
+abbrev Inv-loop : tie.InvT-loop
+Inv-loop file session symbol i work₀ order₀ class n grown₀ r₀ work order grown r =
+    (r₀ ≤ r) × (r ≤ n) × Passing (byRow file session symbol i) work₀ order₀ grown₀ r work order grown
+
+abbrev μ-loop : tie.MeasureT-loop
+μ-loop file session symbol i work₀ order₀ class n grown₀ r₀ work order grown r = n - r
+
+level-requires : tie.Need-level-requires Inv-loop μ-loop
+level-requires c κs = search needs
+
+depth-requires : tie.Need-depth-requires Inv-loop μ-loop
+depth-requires c κs = search needs
+
+returns : tie.Need-returns Inv-loop μ-loop
+returns c =
+    let a = c .before .before .before .before .args in
+    gathers-as gathers-none (rows-none (a .file .now) (a .session .now) (a .symbol) (a .i) (λ e. omega arith))
+
+class-of-requires : tie.Need-class-of-requires Inv-loop μ-loop
+class-of-requires c κs = search needs
+
+row-count-requires : tie.Need-row-count-requires Inv-loop μ-loop
+row-count-requires c κs = search needs
+
+first-row-requires : tie.Need-first-row-requires Inv-loop μ-loop
+first-row-requires c κs = search needs
+
+loop-holds : tie.Need-loop-holds Inv-loop μ-loop
+loop-holds c =
+    let a = c .before .before .before .before .before .before .before .args in
+    let first = c .first-row .ensures in
+    (omega arith, omega (arith, first .within), rows-start (a .file .now) (a .session .now) (a .symbol) (a .i) first)
+
+row-symbol-requires : tie.Need-row-symbol-requires Inv-loop μ-loop
+row-symbol-requires c κs = search needs
+
+wide-requires : tie.Need-wide-requires Inv-loop μ-loop
+wide-requires c κs = search needs
+
+returns-2 : tie.Need-returns-2 Inv-loop μ-loop
+returns-2 c =
+    let at-loop = c .before .before .before .before in
+    let start = at-loop .before .before .before .before .before .before .before .before in
+    let a = start .args in
+    let first = at-loop .before .first-row .ensures in
+    rows-end (a .file .now) (a .session .now) (a .symbol) (a .i) (at-loop .loop .inv .2) (omega arith)
+    (λ k l m e.
+    omega (
+      arith,
+      first .onward (at-loop .loop .r) (omega arith) (omega arith),
+      symbols-up (a .file .now) (start .pre .0 .0 .good .rows) k (at-loop .loop .r) l m,
+    ))
+
+within : (c : tie.In-loop Inv-loop μ-loop)
+    → let start = c .before .before .before .before .before .before .before .before .before in
+    c .before .loop .r < rowCount (start .args .file .now)
+within c = omega (arith, c .before .before .before .row-count .ensures)
+
+-- the row has the symbol
+taken : (c : tie.Else2 Inv-loop μ-loop)
+    → let at-loop = c .before .before .before .before in
+    let class = at-loop .before .before .before in
+    let a = class .before .before .before .before .before .args in
+    byClass (a .file .now) (a .session .now) (meant (class .class-of .result)) (a .i) (at-loop .loop .r)
+    ≡ byRow (a .file .now) (a .session .now) (a .symbol) (a .i) (at-loop .loop .r)
+taken c =
+    let at-loop = c .before .before .before .before in
+    let class = at-loop .before .before .before in
+    let a = class .before .before .before .before .before .args in
+    by-class (a .file .now) (a .session .now) (a .symbol) (a .i) (at-loop .loop .r) (class .class-of .ensures)
+    (omega arith) (omega arith)
+
+by-row-requires : tie.Need-by-row-requires Inv-loop μ-loop
+by-row-requires c κs =
+    let at-loop = c .before .before .before .before .before .before in
+    let start = at-loop .before .before .before .before .before .before .before .before in
+    let a = start .args in
+    let pre = start .pre in
+    let l = within (c .before .before .before .before .before) in
+    let fitting = rows-fitting (a .file .now) (a .session .now) (a .symbol) (a .i) (at-loop .loop .r) l (pre .1 .1) in (
+      (pre .0 .0, pre .0 .1, l),
+      (passing-ready (at-loop .loop .inv .2) (pre .1 .0), fitting-as fitting (sym (taken (c .before .before)))),
+    )
+
+add-r : tie.Need-add-r Inv-loop μ-loop
+add-r c = search needs
+
+loop-less : tie.Need-loop-less Inv-loop μ-loop
+loop-less c = search needs
+
+loop-again : tie.Need-loop-again Inv-loop μ-loop
+loop-again c =
+    let made = gathers-as (c .by-row .ensures) (taken (c .before .before .before)) in
+    let passed = c .before .before .before .before .before .before .before .loop .inv .2 in
+    (omega arith, omega arith, passing-next passed made)
+
+returns-3 : tie.Need-returns-3 Inv-loop μ-loop
+returns-3 c =
+    let at-loop = c .before in
+    let a = at-loop .before .before .before .before .before .before .before .before .args in
+    rows-end (a .file .now) (a .session .now) (a .symbol) (a .i) (at-loop .loop .inv .2) (omega arith)
+    (λ k l m. absurd (omega arith))
+
+pub by-rows-spec : {M : Type 1} → statement M
+by-rows-spec =
+    tie.close
+    (tie.spec
+    Inv-loop
+    μ-loop
+    level-requires
+    depth-requires
+    returns
+    class-of-requires
+    row-count-requires
+    first-row-requires
+    loop-holds
+    row-symbol-requires
+    wide-requires
+    returns-2
+    by-row-requires
+    add-r
+    loop-less
+    loop-again
+    returns-3)

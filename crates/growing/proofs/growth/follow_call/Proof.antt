@@ -1,0 +1,112 @@
+-- `growing::growth::follow_call` meets its contract. Assumes nothing.
+use mathlib.Core.Path.{ap}
+use mathlib.Core.List.{append-nil}
+use lib.ListN.{length}
+use native.Mathlib.Omega.{arith}
+use Rattle.growing.proofs.Gathering.{added}
+use Rattle.growing.proofs.Following.{fitting-only}
+use Rattle.table.proofs.Passed.{good-word}
+use borrow.Author.Needs.{needs}
+use Rattle.growing.proofs.growth.follow_call.Statement.{statement}
+use Rattle.growing.proofs.growth.follow_call.Tie as tie
+
+state-requires : tie.Need-state-requires
+state-requires c κs = search needs
+
+mul-below : tie.Need-mul-below
+mul-below c = search needs
+
+marker-requires : tie.Need-marker-requires
+marker-requires c κs = search needs
+
+add-below : tie.Need-add-below
+add-below c = search needs
+
+level-requires : tie.Need-level-requires
+level-requires c κs = search needs
+
+add-number : tie.Need-add-number
+add-number c = search needs
+
+row-to-requires : tie.Need-row-to-requires
+row-to-requires c κs = search needs
+
+row-marker-requires : tie.Need-row-marker-requires
+row-marker-requires c κs = search needs
+
+number-requires : tie.Need-number-requires
+number-requires c κs =
+    let plain = fitting-only (c .before .before .before .before .before .before .pre .1 .1) .0 in
+    search needs
+
+row-word-requires : tie.Need-row-word-requires
+row-word-requires c κs =
+    let pre = c .before .before .before .before .before .before .before .pre in
+    good-word _ _ (pre .0 .0 .good) (pre .0 .2)
+
+sub-add : tie.Need-sub-add
+sub-add c = search needs
+
+part-add-start : tie.Need-part-add-start
+part-add-start c = search needs
+
+part-add-end : tie.Need-part-add-end
+part-add-end c = search needs
+
+sub-add-2 : tie.Need-sub-add-2
+sub-add-2 c = search needs
+
+part-add-start-2 : tie.Need-part-add-start-2
+part-add-start-2 c = search needs
+
+part-add-end-2 : tie.Need-part-add-end-2
+part-add-end-2 c = search needs
+
+add-requires : tie.Need-add-requires
+add-requires c κs =
+    let read = c .before .before .before .before in
+    let pre = read .before .before .before .before .before .before .before .before .pre in
+    let word = ap length (read .row-word .ensures) in
+    let room = fitting-only (pre .1 .1) .1 in
+    (pre .1 .0, (read .before .number .ensures .1, omega arith))
+
+returns : tie.Need-returns
+returns c =
+    let read = c .before .before .before .before .before in
+    let numbered = read .before in
+    let level = numbered .before .before .before in
+    let pre = level .before .before .before .before .pre in
+    added (c .add .ensures) (fitting-only (pre .1 .1) .0)
+    (omega (
+      arith,
+      numbered .number .ensures,
+      numbered .before .row-marker .ensures,
+      numbered .before .before .row-to .ensures,
+      level .level .ensures,
+      level .before .marker .ensures,
+      level .before .before .state .ensures,
+    ))
+    (simp append-nil (read .row-word .ensures))
+
+pub follow-call-spec : {M : Type 1} → statement M
+follow-call-spec =
+    tie.close
+    (tie.spec
+    state-requires
+    mul-below
+    marker-requires
+    add-below
+    level-requires
+    add-number
+    row-to-requires
+    row-marker-requires
+    number-requires
+    row-word-requires
+    sub-add
+    part-add-start
+    part-add-end
+    sub-add-2
+    part-add-start-2
+    part-add-end-2
+    add-requires
+    returns)

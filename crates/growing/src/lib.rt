@@ -1,0 +1,2 @@
+// What follows the links of a session on a symbol, drafted.
+pub mod growth;
