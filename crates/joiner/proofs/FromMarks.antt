@@ -26,6 +26,7 @@ use Rattle.shelf.proofs.Laws.{shelved-none}
 use Rattle.shelf.proofs.Keys.{keys-kept, keys-rank}
 use Rattle.nesting.proofs.Levels.{level-small}
 use Rattle.joiner.specs.Gathering.{Small, Marked, closeGoal, foundBy, markOf, givenFrom, givenAt, pushedKeys}
+use Rattle.joiner.specs.declared.reading.Goal.{Goal}
 use Rattle.joiner.specs.declared.gathering.Wanted.{Wanted}
 use Rattle.joiner.specs.declared.gathering.Wanted.the-variants.{Marks, Rows}
 use Rattle.joiner.proofs.Passing.{each-each}
@@ -141,15 +142,16 @@ module _ {a b keys edges turns : List ℕ} {count : ℕ} (k : Marked Rows a b ke
         ∙ map-each rowKey _ L)
 
     -- one that has the row's marker
-    pub return-same : {i : ℕ} → i < count → getD (key i) 0 0 ≡ rowAt a x .marker
-        → foundBy a b (wordsOf keys edges turns count) (closeGoal a b x q (i + 1)) x q (markOf (key i) .left)
-        ≡ givenFrom a b x q (markOf (key i))
+    pub return-same : {i : ℕ} → i < count → getD (key i) 0 0 ≡ rowAt a x .marker → {goal : Goal} {s : List ℕ}
+        → goal ≡ closeGoal a b x q (i + 1) → s ≡ markOf (key i) .left
+        → foundBy a b (wordsOf keys edges turns count) goal x q s ≡ givenFrom a b x q (markOf (key i))
     unfolding givenFrom
-    return-same {i} l e =
+    return-same {i} l e goal-is stack-is =
         let y = markOf (key i) in
         let rows = rowsFrom (tableOf b) L return (rowAt a x) q in
         let M = wordsOf keys edges turns count in
-        rows-one a b x q M return (y .left) (closeGoal a b x q (i + 1))
+        (λ j. foundBy a b M (goal-is j) x q (stack-is j))
+        ∙ rows-one a b x q M return (y .left) (closeGoal a b x q (i + 1))
         (λ d. close-keys a b x q M return (y .left) d refl (number-at l ∙ ap (number L) (λ i. mark (e i) (y .left))))
         ∙ ap (map rowKey) (sym (append-nil (rows (y .left))))
         ∙ ap (λ (c : Bool). map rowKey (each rows (only c (y .left)))) (sym (eq-eqb (y .marker) (rowAt a x .marker) e))

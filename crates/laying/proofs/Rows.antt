@@ -25,14 +25,16 @@ pub key-row : (l : List Row) → map keyRow (map rowKey l) ≡ l
 key-row [] = refl
 key-row (r ∷ l) = ap (λ (m : List Row). r ∷ m) (key-row l)
 
--- a length below 256 as two bytes
-pub short-row : (start : ℕ) (w : Word) → Key w
-    → getD w 0 0 ∷ getD w 1 0 ∷ getD w 3 0 ∷ getD w 2 0 ∷ entryBytes start (length w - 4) ≡ rowBytes start (keyRow w)
-short-row start w k =
+-- a row by the bytes of its key: a length below 256 is two bytes
+pub key-put : (start : ℕ) (w : Word) → Key w → {out : List ℕ} {at next : ℕ} {out′ : List ℕ}
+    → let bytes = getD w 0 0 ∷ getD w 1 0 ∷ getD w 3 0 ∷ getD w 2 0 ∷ entryBytes start (length w - 4) in
+    Appended out at bytes next out′ → Appended out at (rowBytes start (keyRow w)) next out′
+key-put start w k {out} {at} {next} {out′} =
     let long = length-drop 4 w in
     let e : (length w - 4) % 256 ≡ length (drop 4 w) = omega (arith, k .whole, k .short) in
     let f : (length w - 4) / 256 % 256 ≡ 0 = omega (arith, k .short) in
-    ap₂ (λ (x y : ℕ). getD w 0 0 ∷ getD w 1 0 ∷ getD w 3 0 ∷ getD w 2 0 ∷ littleEndian 2 start ++ x ∷ y ∷ []) e f
+    subst (λ (b : List ℕ). Appended out at b next out′)
+    (ap₂ (λ (x y : ℕ). getD w 0 0 ∷ getD w 1 0 ∷ getD w 3 0 ∷ getD w 2 0 ∷ littleEndian 2 start ++ x ∷ y ∷ []) e f)
 
 module _ (arena starts order : List ℕ) where
   abbrev word : ℕ → Word
@@ -113,8 +115,8 @@ module _ (arena starts order : List ℕ) where
       pub row-key : Key key
       row-key = subst Key (sym e) (p .keys .each i lt)
 
-      pub row-room : Room out′ end (rowBytes used (keyRow key))
-      row-room =
+      pub row-room : (start : ℕ) → Room out′ end (rowBytes start (keyRow key))
+      row-room start =
           record {
             fits =
                 omega (

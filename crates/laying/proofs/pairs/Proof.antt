@@ -1,4 +1,4 @@
--- `joiner::writing::pairs` meets its contract. Assumes nothing.
+-- `laying::pairs` meets its contract. Assumes nothing.
 use Prim.Native.Nat.{_*_, _<_}
 use native.Mathlib.Omega.{arith}
 use Rattle.laying.proofs.Sets.{Pairing, pairing-none, pairing-all, shift-below, pairing-more}

@@ -1,4 +1,4 @@
--- `joiner::writing::put_eight` meets its contract. Assumes nothing.
+-- `laying::put_eight` meets its contract. Assumes nothing.
 use Prim.Native.Nat.{_-_, _/_, _^_, _≤_}
 use native.Mathlib.Numerals.{add-one}
 use native.Mathlib.Omega.{arith}

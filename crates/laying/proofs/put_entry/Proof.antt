@@ -1,4 +1,4 @@
--- `joiner::writing::put_entry` meets its contract. Assumes nothing.
+-- `laying::put_entry` meets its contract. Assumes nothing.
 use Rattle.words.proofs.Puts.{appended-next}
 use borrow.Author.Needs.{needs}
 use Rattle.laying.proofs.put_entry.Statement.{statement}

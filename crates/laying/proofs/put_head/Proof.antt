@@ -1,4 +1,4 @@
--- `joiner::writing::put_head` meets its contract. Assumes nothing.
+-- `laying::put_head` meets its contract. Assumes nothing.
 use mathlib.Core.Path.{_≡_, ap₂}
 use Prim.Native.Nat.{ℕ, _*_, _≤_}
 use native.Mathlib.Omega.{arith}

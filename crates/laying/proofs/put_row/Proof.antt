@@ -1,6 +1,6 @@
--- `joiner::writing::put_row` meets its contract. Assumes nothing.
+-- `laying::put_row` meets its contract. Assumes nothing.
 use Rattle.words.proofs.Puts.{appended-next}
-use Rattle.laying.proofs.Rows.{short-row}
+use Rattle.laying.proofs.Rows.{key-put}
 use borrow.Author.Needs.{needs}
 use Rattle.laying.proofs.put_row.Statement.{statement}
 use Rattle.laying.proofs.put_row.Tie as tie
@@ -34,7 +34,7 @@ returns c =
     let second = c .before .before in
     let first = second .before .before .before .before in
     let start = first .before .before .before .before .before .before .before .before in
-    rw (short-row (start .args .start) (start .args .key .now) (start .pre .1)) at
+    key-put (start .args .start) (start .args .key .now) (start .pre .1)
     (appended-next (first .put-four .ensures) (second .put-entry .ensures))
 
 pub put-row-spec : {M : Type 1} → statement M

@@ -1,4 +1,4 @@
--- `joiner::writing::put_rows` meets its contract. Assumes nothing.
+-- `laying::put_rows` meets its contract. Assumes nothing.
 use Prim.Native.Nat.{_-_}
 use native.Mathlib.Omega.{arith}
 use Rattle.laying.specs.Written.{Key}
@@ -28,7 +28,7 @@ word-requires c κs =
 put-row-requires : tie.Need-put-row-requires Inv-loop μ-loop
 put-row-requires c κs =
     let word = c .before in
-    (row-room _ _ _ (word .before .before .loop .inv) _ (word .word .ensures) (omega arith), the-key word)
+    (row-room _ _ _ (word .before .before .loop .inv) _ (word .word .ensures) (omega arith) _, the-key word)
 
 sub-start : tie.Need-sub-start Inv-loop μ-loop
 sub-start c = the-key (c .before .before .before .before) .whole

@@ -1,4 +1,4 @@
--- `joiner::writing::put_sets` meets its contract. Assumes nothing.
+-- `laying::put_sets` meets its contract. Assumes nothing.
 use Rattle.words.proofs.Puts.{appended-next}
 use Rattle.laying.proofs.Sets.{starting-asked, final-asked, pairs-number}
 use borrow.Author.Needs.{needs}

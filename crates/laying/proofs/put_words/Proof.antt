@@ -1,4 +1,4 @@
--- `joiner::writing::put_words` meets its contract. Assumes nothing.
+-- `laying::put_words` meets its contract. Assumes nothing.
 use Prim.Native.Nat.{_-_}
 use native.Mathlib.Omega.{arith}
 use Rattle.laying.specs.Written.{Key}

@@ -1,4 +1,4 @@
--- `joiner::writing::write` meets its contract. Assumes nothing.
+-- `laying::write` meets its contract. Assumes nothing.
 use Rattle.words.specs.Calls.{Appended}
 use Rattle.words.proofs.Puts.{appended-next}
 use Rattle.laying.proofs.File.{front, rows-fit, words-fit, all-put}

@@ -1,4 +1,4 @@
--- `joiner::nesting::after_symbol` meets its contract. Assumes nothing.
+-- `nesting::after_symbol` meets its contract. Assumes nothing.
 use mathlib.Core.Path.{_≡_}
 use native.Mathlib.Omega.{arith}
 use native.Mathlib.Numerals.{add-one}

@@ -1,4 +1,4 @@
--- `joiner::nesting::after_word` meets its contract. Assumes nothing.
+-- `nesting::after_word` meets its contract. Assumes nothing.
 use mathlib.Core.Path.{sym, ap, _∙_}
 use Prim.Native.Nat.{_-_}
 use lib.ListN.{length}

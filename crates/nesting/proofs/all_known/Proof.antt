@@ -1,4 +1,4 @@
--- `joiner::nesting::all_known` meets its contract. Assumes nothing.
+-- `nesting::all_known` meets its contract. Assumes nothing.
 use mathlib.Core.Path.{_≡_}
 use Prim.Native.Nat.{ℕ, _-_, _≤_, _<_}
 use lib.ListN.{length, getD}

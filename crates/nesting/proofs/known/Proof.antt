@@ -1,4 +1,4 @@
--- `joiner::nesting::known` meets its contract. Assumes nothing.
+-- `nesting::known` meets its contract. Assumes nothing.
 use Rattle.nesting.proofs.ByRow.{told-known}
 use borrow.Author.Needs.{needs}
 use Rattle.nesting.proofs.known.Statement.{statement}

@@ -1,4 +1,4 @@
--- `joiner::nesting::nests` meets its contract. Assumes nothing.
+-- `nesting::nests` meets its contract. Assumes nothing.
 use Rattle.words.proofs.Exact.{no-exact, denied, granted}
 use Rattle.nesting.proofs.ByRow.{nests-not, nests-rows}
 use borrow.Author.Needs.{needs}

@@ -1,4 +1,4 @@
--- `joiner::nesting::pair_nests` meets its contract. Assumes nothing.
+-- `nesting::pair_nests` meets its contract. Assumes nothing.
 use mathlib.Core.Path.{refl, sym, ap, _∙_}
 use native.Mathlib.Omega.{arith}
 use Rattle.table.specs.Calls.{meant}

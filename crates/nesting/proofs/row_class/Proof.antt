@@ -1,4 +1,4 @@
--- `joiner::nesting::row_class` meets its contract. Assumes nothing.
+-- `nesting::row_class` meets its contract. Assumes nothing.
 use native.Mathlib.Omega.{arith}
 use Rattle.words.proofs.Lists.{getD-byte}
 use Rattle.table.specs.File.{rowStart}

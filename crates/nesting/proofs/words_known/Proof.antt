@@ -1,4 +1,4 @@
--- `joiner::nesting::words_known` meets its contract. Assumes nothing.
+-- `nesting::words_known` meets its contract. Assumes nothing.
 use Prim.Native.Nat.{ℕ, _-_, _≤_, _<_}
 use native.Mathlib.Omega.{arith}
 use borrow.Author.Count.{below-more}

@@ -1,4 +1,4 @@
--- `joiner::shelf::against` meets its contract. Assumes nothing.
+-- `shelf::against` meets its contract. Assumes nothing.
 use mathlib.Core.Path.{sym, ap, _∙_}
 use lib.ListN.{length, drop, length-drop}
 use lib.Seq.{length-take-le, take-all}

@@ -1,4 +1,4 @@
--- `joiner::shelf::insert` meets its contract. Assumes nothing.
+-- `shelf::insert` meets its contract. Assumes nothing.
 use Prim.Native.Nat.{_-_, _≤_}
 use native.Mathlib.Omega.{arith}
 use Rattle.shelf.proofs.Turns.{Shifted, shifted-none, shifted-more, shifted-inserted}

@@ -1,4 +1,4 @@
--- `joiner::shelf::place` meets its contract: what is before `low` comes before the word, what is from `high` on does
+-- `shelf::place` meets its contract: what is before `low` comes before the word, what is from `high` on does
 -- not. Assumes nothing.
 use mathlib.Core.Path.{_≡_, sym, ap, _∙_}
 use mathlib.Core.List.{_++_}

@@ -1,4 +1,4 @@
--- `joiner::shelf::put` meets its contract. Assumes nothing.
+-- `shelf::put` meets its contract. Assumes nothing.
 use Rattle.shelf.proofs.Laws.{shelved-made, gathers-full}
 use borrow.Author.Needs.{needs}
 use Rattle.shelf.proofs.put.Statement.{statement}

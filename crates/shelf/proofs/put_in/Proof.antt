@@ -1,4 +1,4 @@
--- `joiner::shelf::put_in` meets its contract. Assumes nothing.
+-- `shelf::put_in` meets its contract. Assumes nothing.
 use mathlib.Core.Path.{_≡_, refl, sym, _∙_}
 use mathlib.Core.Bool.{false≢true}
 use mathlib.Core.Logic.{inl, inr}

@@ -1,4 +1,4 @@
--- `joiner::shelf::stands` meets its contract. Assumes nothing.
+-- `shelf::stands` meets its contract. Assumes nothing.
 use mathlib.Core.Path.{_≡_, sym, ap, _∙_, subst}
 use mathlib.Core.List.{_++_}
 use Prim.Native.Nat.{_<_}

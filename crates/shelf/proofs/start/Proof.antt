@@ -1,4 +1,4 @@
--- `joiner::shelf::start` meets its contract. Assumes nothing.
+-- `shelf::start` meets its contract. Assumes nothing.
 use Rattle.shelf.proofs.Laws.{shelved-none}
 use Rattle.shelf.proofs.start.Statement.{statement}
 use Rattle.shelf.proofs.start.Tie as tie

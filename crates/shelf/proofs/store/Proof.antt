@@ -1,4 +1,4 @@
--- `joiner::shelf::store` meets its contract. Assumes nothing.
+-- `shelf::store` meets its contract. Assumes nothing.
 use lib.ListN.{length-set}
 use native.Mathlib.Omega.{arith}
 use Rattle.shelf.proofs.Rooms.{stored}

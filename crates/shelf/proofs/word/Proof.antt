@@ -1,4 +1,4 @@
--- `joiner::shelf::word` meets its contract. Assumes nothing.
+-- `shelf::word` meets its contract. Assumes nothing.
 use mathlib.Core.Path.{ap, _∙_}
 use Prim.Native.Nat.{ℕ, _+_, _<_}
 use native.Mathlib.Omega.{arith}

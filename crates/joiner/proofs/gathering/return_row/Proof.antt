@@ -5,10 +5,9 @@ use Prim.Native.Nat.{ℕ, _+_, _-_, _<_, _≤_}
 use native.Mathlib.Omega.{arith}
 use lib.ListN.{length, getD, take, drop, length-take, length-drop}
 use Rattle.words.specs.Words.{Word}
-use Rattle.shelf.specs.Shelved.{wordAt, wordsOf}
+use Rattle.shelf.specs.Shelved.{wordAt}
 use Rattle.shelf.proofs.Laws.{gathers-none, gathers-as}
-use Rattle.joiner.specs.Gathering.{closeGoal, foundBy, markOf}
-use Rattle.joiner.specs.declared.reading.Goal.{Goal}
+use Rattle.joiner.specs.Gathering.{markOf}
 use Rattle.joiner.proofs.Given.{suited-close}
 use Rattle.joiner.proofs.FromMarks.{key-long, return-other, return-same, laid}
 use borrow.Author.Needs.{needs}
@@ -78,8 +77,8 @@ read-row-requires c κs =
     let key = goal .before .before .before .before .before .before .before .before in
     let start = key .before .before .before in
     let pre = start .pre in (
-      (pre .0 .0, left-long key),
-      (pre .1 .0 .numbered, (rw (goal .close-goal .ensures) (suited-close (pre .0 .0) (start .args .i + 1) _), pre .1 .1)),
+      (pre .0 .0, omega (arith, left-long key)),
+      (pre .1 .0 .numbered, (rw (goal .close-goal .ensures) (suited-close (pre .0 .0) _ _), pre .1 .1)),
     )
 
 returns-2 : tie.Need-returns-2
@@ -92,14 +91,12 @@ returns-2 c =
     let start = key .before .before .before in
     let a = start .args in
     let pre = start .pre in
-    let marks = wordsOf (a .keys .now) (a .edges .now) (a .turns .now) (a .marks) in
-    let w = key-of key in
     let left-is = ap (λ (w : Word). take (length w - 1) (drop 1 w)) (key .word .ensures) in
-    let stack-is = laid w (a .stack .now) left-is (copied .copy .ensures) in
     gathers-as (c .read-row .ensures)
-    ((λ i. foundBy (a .first .now) (a .second .now) marks (goal .close-goal .ensures i) (a .x) (a .q) (stack-is i))
-    ∙ return-same (pre .1 .0) (a .x) (a .q) (pre .0 .1)
-    (omega (arith, head-is wide, same .before .row-marker .ensures, same .if1 .left)))
+    (return-same (pre .1 .0) (a .x) (a .q) (pre .0 .1)
+    (omega (arith, head-is wide, same .before .row-marker .ensures, same .if1 .left))
+    (goal .close-goal .ensures)
+    (laid (key-of key) (a .stack .now) left-is (copied .copy .ensures)))
 
 pub return-row-spec : {M : Type 1} → statement M
 return-row-spec =
