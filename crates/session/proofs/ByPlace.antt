@@ -176,7 +176,7 @@ module _ (T : Table) (bytes : List ℕ) (whole : length bytes ≡ size) (small :
           inr (o .0, o .1, sym (foot-stands bytes small (o .0) i .1 e))
 
 -- numbers that rise from each to the next rise
-all-rise : (K : ℕ → ℕ) (n : ℕ) → ((i : ℕ) → i + 1 < n → K i < K (i + 1)) → (i j : ℕ) → i < j → j < n → K i < K j
+pub all-rise : (K : ℕ → ℕ) (n : ℕ) → ((i : ℕ) → i + 1 < n → K i < K (i + 1)) → (i j : ℕ) → i < j → j < n → K i < K j
 all-rise K n h i zero l k = absurd (omega arith)
 all-rise K n h i (suc j) l k =
     let e : j + 1 ≡ suc j = omega arith in

@@ -15,6 +15,7 @@ pub mod Keys
 pub mod ByPlace
 pub mod Weighed
 pub mod Started
+pub mod Levelled
 pub mod Began
 pub mod Clear
 pub mod Held

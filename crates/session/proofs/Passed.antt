@@ -70,9 +70,6 @@ pub record Heads (bytes : List ℕ) (foot first n : ℕ) : Type 0 where
   pub all : (k : ℕ) → k < n → footAt bytes k ≡ foot → (headAt bytes k ≡ first) × (first < 256)
   pub one : first < 256 → (k : ℕ) × (k < n) × (footAt bytes k ≡ foot) × (headAt bytes k ≡ first)
 
-pub heads-start : (bytes : List ℕ) (foot : ℕ) → Heads bytes foot 256 0
-heads-start bytes foot = record { all = λ k l. absurd (omega arith); one = λ l. absurd (omega arith) }
-
 module _ {bytes : List ℕ} {foot first n : ℕ} (h : Heads bytes foot first n) where
   pub heads-next : (head : ℕ) → head ≡ headAt bytes n → footAt bytes n ≡ foot → Agrees first head
       → Heads bytes foot head (n + 1)
@@ -99,6 +96,3 @@ module _ {bytes : List ℕ} {foot first n : ℕ} (h : Heads bytes foot first n) 
         omega arith,
         λ m. let o = h .one m in let y = c .1 (o .0) (omega (arith, o .1)) (o .2) in omega (arith, o .3),
       )
-
-  pub heads-all : countOf bytes ≤ n → Common bytes foot
-  heads-all e = (first, λ k l f. h .all k (omega arith) f)

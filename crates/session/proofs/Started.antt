@@ -18,7 +18,7 @@ use Rattle.session.specs.Sessions.{starts, started}
 use Rattle.session.specs.Bytes.{linkStart, size, linkBytes, entryOf, byteOf, bytesOf}
 use Rattle.session.proofs.Encoded.{byte-of, whole-of, getD-zeros}
 
-same-or : (k n : ℕ) → (k ≡ n) ⊎ (k ≡ n → ⊥)
+pub same-or : (k n : ℕ) → (k ≡ n) ⊎ (k ≡ n → ⊥)
 same-or k n = go (eq-zero-or-pos (k - n + (n - k)))
   where
     go : (k - n + (n - k) ≡ 0) ⊎ (0 < k - n + (n - k)) → (k ≡ n) ⊎ (k ≡ n → ⊥)

@@ -3,7 +3,7 @@ use mathlib.Core.Path.{_≡_}
 use mathlib.Core.Bool.{Bool, cond}
 use mathlib.Core.Logic.{_⊎_}
 use mathlib.Core.List.{List}
-use Prim.Native.Nat.{ℕ, _+_, _-_, _*_, _<_, _≤_}
+use Prim.Native.Nat.{ℕ, _+_, _-_, _*_, _/_, _<_, _≤_}
 use lib.Dec.{eqb}
 use lib.ListN.{length, getD, take, drop}
 use Rattle.words.specs.Words.{Word, Bytes}
@@ -12,9 +12,9 @@ use Rattle.meaning.specs.Trails.{Link}
 use Rattle.meaning.specs.Answers.{linksCap}
 use Rattle.table.specs.File.{byte}
 use Rattle.session.specs.Sessions.{Ranges, standsOn}
-use Rattle.session.specs.Soundly.{Load, most, loads}
+use Rattle.session.specs.Soundly.{Load, most, loads, longest}
 use Rattle.session.specs.Bytes.{linkStart, lengthStart, pieceStart, pieceRoom, size, countOf, lengthAt}
-use Rattle.session.specs.Bytes.{belowFrom, linkFrom, linkAt, NoneBelow, pieceAt, sessionOf, lengthBytes}
+use Rattle.session.specs.Bytes.{belowFrom, linkFrom, linkAt, NoneBelow, pieceAt, sessionOf, lengthBytes, Unused}
 
 -- what the type of a session says of its bytes
 pub record Lent (bytes : List ℕ) : Type 0 where
@@ -63,6 +63,23 @@ pub record Links (T : Table) (bytes : List ℕ) : Type 0 where
   pub fit : (i : ℕ) → i < countOf bytes → LinkFits T bytes i
   pub rise : (i : ℕ) → i + 1 < countOf bytes → keyAt bytes i < keyAt bytes (i + 1)
 
+-- the place where a level's links start; and the level of the links with one foot
+abbrev pub startOf : List ℕ → ℕ → ℕ
+startOf starts l = getD starts l 0
+
+abbrev pub levelOf : ℕ → ℕ
+levelOf foot = foot / 65536
+
+-- each link stands between the start of its level and that of the next; no level is over 32, and nothing is below level 0
+pub record Levelled (bytes starts : List ℕ) : Type 0 where
+  pub lent : Lent bytes
+  pub few : countOf bytes ≤ 64
+  pub low : (j : ℕ) → j < countOf bytes → linkAt bytes j .level ≤ 32
+  pub bottom : (j : ℕ) → j < countOf bytes → linkAt bytes j .level ≡ 0 → footAt bytes j ≡ 0
+  pub within : (l : ℕ) → startOf starts l ≤ countOf bytes
+  pub after : (j : ℕ) → j < countOf bytes → startOf starts (linkAt bytes j .level) ≤ j
+  pub before : (j : ℕ) → j < countOf bytes → j < startOf starts (linkAt bytes j .level + 1)
+
 -- a link is at level 0, or stands on one that is there
 abbrev pub RootedAt : List ℕ → ℕ → Type 0
 RootedAt bytes i = (footAt bytes i ≡ 0) ⊎ ((j : ℕ) × (j < countOf bytes) × (seatAt bytes j ≡ footAt bytes i))
@@ -85,6 +102,12 @@ pub record Grouped (bytes : List ℕ) : Type 0 where
   pub bottom : Common bytes 0 → ⊥
   pub rooted : (i : ℕ) → i < countOf bytes → RootedAt bytes i
   pub carries : (i : ℕ) → i < countOf bytes → CarriesAt bytes i
+
+-- what rests on links that fit: their groups, the longest waiting output, and the places not used
+pub record Rests (T : Table) (bytes : List ℕ) : Type 0 where
+  pub groups : Grouped bytes
+  pub waiting : longest (sessionOf bytes .entries) ≤ T .waitingCap
+  pub unused : Unused bytes
 
 -- what waits from each link upward, at most, of the links from a place on; and from one link
 unfoldable pub loadsFrom : List ℕ → ℕ → List Load

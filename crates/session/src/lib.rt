@@ -1,6 +1,7 @@
 // Sessions: what their bytes stand for, which are sound for a table, and the one to begin with. Nothing outside the
 // lent bytes is read or written.
 mod fresh;
+mod levels;
 pub mod links;
 pub mod places;
 mod rules;
@@ -9,11 +10,14 @@ mod weigh;
 
 pub use fresh::Opening;
 pub use fresh::begin;
+use levels::LEVELS;
 use places::SIZE;
+ghost use Prim.Native.Nat.{_≤_};
 ghost use Rattle.words.specs.Lists.{Exact};
-ghost use Rattle.table.specs.File.{tableOf};
+ghost use Rattle.table.specs.File.{byte, tableOf};
 ghost use Rattle.table.specs.Good.{first, Good};
-ghost use Rattle.session.specs.Bytes.{SoundBytes};
+ghost use Rattle.session.specs.Bytes.{countOf, SoundBytes};
+ghost use Rattle.session.specs.Numbers.{Links, Levelled, Rests};
 
 // Whether a session is sound for the table of a good file. The links are looked at before what rests on them, and the
 // places not used last: they are the most to look at.
@@ -34,10 +38,30 @@ pub fn sound(file: &[u8], session: &[u8; SIZE]) -> bool
     if !rules::links(file, session) {
         return false;
     }
-    if !rules::groups(session) {
+    on_links(file, session)
+}
+
+// And links that fit and rise: where each level stands is found, so that each search looks at one level.
+fn on_links(file: &[u8], session: &[u8; SIZE]) -> bool
+    requires { ⌜ (Good first (now file)) × (countOf (now session) ≤ 64) × (byte (now session) 0 ≤ 32) ⌝ }
+    requires { ⌜ Links (tableOf (now file)) (now session) ⌝ }
+    ensures { λ r. ⌜ Exact (Rests (tableOf (now (file .entry))) (now (session .entry))) r ⌝ }
+{
+    let mut starts = [0u8; LEVELS];
+    levels::find(session, &mut starts);
+    rests(file, session, &starts)
+}
+
+// The rules that rest on such links.
+fn rests(file: &[u8], session: &[u8; SIZE], starts: &[u8; LEVELS]) -> bool
+    requires { ⌜ (Good first (now file)) × Links (tableOf (now file)) (now session) ⌝ }
+    requires { ⌜ Levelled (now session) (now starts) ⌝ }
+    ensures { λ r. ⌜ Exact (Rests (tableOf (now (file .entry))) (now (session .entry))) r ⌝ }
+{
+    if !rules::groups(session, starts) {
         return false;
     }
-    if table::waiting_cap(file) < weigh::longest(session) {
+    if table::waiting_cap(file) < weigh::longest(session, starts) {
         return false;
     }
     unused::unused(session)

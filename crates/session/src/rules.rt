@@ -1,4 +1,6 @@
 // The rules of soundness that look at links: each says whether the session keeps it.
+use crate::levels::LEVELS;
+use crate::levels::start;
 use crate::places;
 use crate::places::SIZE;
 ghost use mathlib.Core.Path.{_≡_};
@@ -9,6 +11,7 @@ ghost use Rattle.table.specs.File.{tableOf};
 ghost use Rattle.table.specs.Good.{first, Good};
 ghost use Rattle.session.specs.Bytes.{countOf};
 ghost use Rattle.session.specs.Numbers.{LinkFits, Links, RootedAt, Agrees, Common, CarriesAt, Grouped};
+ghost use Rattle.session.specs.Numbers.{levelOf, Levelled};
 
 // "marker 0 exactly at level 0"
 fn mark_fits(level: usize, marker: usize) -> bool
@@ -70,18 +73,19 @@ pub fn links(file: &[u8], session: &[u8; SIZE]) -> bool
     true
 }
 
-// Whether a link is at level 0 or stands on one that is there.
-fn rooted(session: &[u8; SIZE], i: usize) -> bool
-    requires { ⌜ (countOf (now session) ≤ 64) × (i < 64) ⌝ }
+// Whether a link is at level 0 or stands on one that is there, which is of the level before its own.
+fn rooted(session: &[u8; SIZE], starts: &[u8; LEVELS], i: usize) -> bool
+    requires { ⌜ Levelled (now session) (now starts) × (i < countOf (now session)) ⌝ }
     ensures { λ r. ⌜ Exact (RootedAt (now (session .entry)) i) r ⌝ }
 {
     let foot = places::foot(session, i);
     if foot == 0 {
         return true;
     }
-    let n = places::count(session);
-    let mut j = 0;
-    while j < n {
+    let level = foot / 65536;
+    let end = start(starts, level);
+    let mut j = start(starts, level - 1);
+    while j < end {
         if places::seat(session, j) == foot {
             return true;
         }
@@ -103,15 +107,16 @@ fn agrees(first: usize, head: usize) -> bool
     head == first
 }
 
-// Whether the pieces on the links with one foot have no common first byte.
-fn apart(session: &[u8; SIZE], foot: usize) -> bool
-    requires { ⌜ countOf (now session) ≤ 64 ⌝ }
+// Whether the pieces on the links with one foot, which are of one level, have no common first byte.
+fn apart(session: &[u8; SIZE], starts: &[u8; LEVELS], foot: usize) -> bool
+    requires { ⌜ Levelled (now session) (now starts) × (levelOf foot < 34) ⌝ }
     ensures { λ r. ⌜ Exact (Common (now (session .entry)) foot → ⊥) r ⌝ }
 {
-    let n = places::count(session);
+    let level = foot / 65536;
+    let end = start(starts, level + 1);
     let mut first = 256;
-    let mut j = 0;
-    while j < n {
+    let mut j = start(starts, level);
+    while j < end {
         if places::foot(session, j) == foot {
             let head = places::head(session, j);
             if !agrees(first, head) {
@@ -125,31 +130,31 @@ fn apart(session: &[u8; SIZE], foot: usize) -> bool
 }
 
 // Whether a link is at the depth, or those that stand on it have no common first byte, and there are some.
-fn carries(session: &[u8; SIZE], i: usize) -> bool
-    requires { ⌜ (countOf (now session) ≤ 64) × (i < 64) ⌝ }
+fn carries(session: &[u8; SIZE], starts: &[u8; LEVELS], i: usize) -> bool
+    requires { ⌜ Levelled (now session) (now starts) × (i < countOf (now session)) ⌝ }
     ensures { λ r. ⌜ Exact (CarriesAt (now (session .entry)) i) r ⌝ }
 {
     if places::level(session, i) == places::depth(session) {
         return true;
     }
-    apart(session, places::seat(session, i))
+    apart(session, starts, places::seat(session, i))
 }
 
 // Whether every link lies on a full trail, and no pieces that could have been moved down were left.
-pub fn groups(session: &[u8; SIZE]) -> bool
-    requires { ⌜ countOf (now session) ≤ 64 ⌝ }
+pub fn groups(session: &[u8; SIZE], starts: &[u8; LEVELS]) -> bool
+    requires { ⌜ Levelled (now session) (now starts) ⌝ }
     ensures { λ r. ⌜ Exact (Grouped (now (session .entry))) r ⌝ }
 {
-    if !apart(session, 0) {
+    if !apart(session, starts, 0) {
         return false;
     }
     let n = places::count(session);
     let mut i = 0;
     while i < n {
-        if !rooted(session, i) {
+        if !rooted(session, starts, i) {
             return false;
         }
-        if !carries(session, i) {
+        if !carries(session, starts, i) {
             return false;
         }
         i += 1;

@@ -1,4 +1,6 @@
 // The longest waiting output, by one pass from the last link to the first: what stands on a link comes after it.
+use crate::levels::LEVELS;
+use crate::levels::start;
 use crate::places::SIZE;
 use crate::places::count;
 use crate::places::foot;
@@ -6,21 +8,23 @@ use crate::places::piece;
 use crate::places::seat;
 use words::larger;
 ghost use mathlib.Core.Path.{_≡_};
-ghost use Prim.Native.Nat.{_+_, _<_, _≤_};
+ghost use Prim.Native.Nat.{_+_, _<_};
 ghost use Rattle.meaning.specs.Table.{Table};
 ghost use Rattle.session.specs.Soundly.{longest as longestOf};
 ghost use Rattle.session.specs.Bytes.{countOf, sessionOf};
-ghost use Rattle.session.specs.Numbers.{Lent, Links, Weighed, Heaviest};
+ghost use Rattle.session.specs.Numbers.{Links, startOf, levelOf, Levelled, Weighed, Heaviest};
 
-// The most of the loads of the links from a place on with this foot; 0 where there is none.
-fn most_on(session: &[u8; SIZE], loads: &[usize; 64], below: usize, from: usize) -> usize
-    requires { ⌜ (countOf (now session) ≤ 64) × Weighed (now session) (now loads) from ⌝ }
-    ensures { λ r. ⌜ Heaviest (now (session .entry)) below from r ⌝ }
+// The most of the loads of the links with this foot, which are of one level; 0 where there is none.
+fn most_on(session: &[u8; SIZE], starts: &[u8; LEVELS], loads: &[usize; 64], below: usize) -> usize
+    requires { ⌜ Levelled (now session) (now starts) × (levelOf below < 34) ⌝ }
+    requires { ⌜ Weighed (now session) (now loads) (startOf (now starts) (levelOf below)) ⌝ }
+    ensures { λ r. ⌜ Heaviest (now (session .entry)) below (startOf (now (starts .entry)) (levelOf below)) r ⌝ }
 {
-    let n = count(session);
+    let level = below / 65536;
+    let end = start(starts, level + 1);
     let mut most = 0;
-    let mut j = from;
-    while j < n {
+    let mut j = start(starts, level);
+    while j < end {
         if foot(session, j) == below {
             most = larger(most, loads[j]);
         }
@@ -30,27 +34,27 @@ fn most_on(session: &[u8; SIZE], loads: &[usize; 64], below: usize, from: usize)
 }
 
 // Weighs a link: its piece and the most of what stands on it.
-fn weigh(session: &[u8; SIZE], loads: &mut [usize; 64], i: usize)
-    requires { ⌜ (countOf (now session) ≤ 64) × Lent (now session) × ((T : Table) × Links T (now session)) ⌝ }
+fn weigh(session: &[u8; SIZE], starts: &[u8; LEVELS], loads: &mut [usize; 64], i: usize)
+    requires { ⌜ Levelled (now session) (now starts) × ((T : Table) × Links T (now session)) ⌝ }
     requires { ⌜ (i < countOf (now session)) × Weighed (now session) (now loads) (i + 1) ⌝ }
     ensures { λ _. ⌜ Weighed (now (session .entry)) (now (loads .exit)) i ⌝ }
 {
-    let above = most_on(session, loads, seat(session, i), i + 1);
+    let above = most_on(session, starts, loads, seat(session, i));
     let own = piece(session, i).len();
     let all = &mut loads[..];
     all[i] = own + above;
 }
 
 // How long the longest waiting output is, where each link fits.
-pub fn longest(session: &[u8; SIZE]) -> usize
-    requires { ⌜ (countOf (now session) ≤ 64) × ((T : Table) × Links T (now session)) ⌝ }
+pub fn longest(session: &[u8; SIZE], starts: &[u8; LEVELS]) -> usize
+    requires { ⌜ Levelled (now session) (now starts) × ((T : Table) × Links T (now session)) ⌝ }
     ensures { λ r. ⌜ r ≡ longestOf (sessionOf (now (session .entry)) .entries) ⌝ }
 {
     let mut loads = [0usize; 64];
     let mut i = count(session);
     while 0 < i {
         i -= 1;
-        weigh(session, &mut loads, i);
+        weigh(session, starts, &mut loads, i);
     }
-    most_on(session, &loads, 0, 0)
+    most_on(session, starts, &loads, 0)
 }

@@ -6,12 +6,13 @@ use native.Mathlib.Omega.{arith}
 use Rattle.words.specs.Lists.{Exact}
 use Rattle.words.proofs.Exact.{yes-exact}
 use Rattle.session.specs.Numbers.{Common}
+use Rattle.session.proofs.Levelled.{seat-low}
 use borrow.Author.Needs.{needs}
 use Rattle.session.proofs.rules.carries.Statement.{statement}
 use Rattle.session.proofs.rules.carries.Tie as tie
 
 level-requires : tie.Need-level-requires
-level-requires c κs = search needs
+level-requires c κs = omega (arith, c .pre .0 .few)
 
 depth-requires : tie.Need-depth-requires
 depth-requires c κs = search needs
@@ -20,10 +21,12 @@ returns : tie.Need-returns
 returns c = yes-exact (inl (omega arith))
 
 seat-requires : tie.Need-seat-requires
-seat-requires c κs = search needs
+seat-requires c κs = omega (arith, c .before .before .before .pre .0 .few)
 
 apart-requires : tie.Need-apart-requires
-apart-requires c κs = search needs
+apart-requires c κs =
+    let pre = c .before .before .before .before .pre in
+    (pre .0, seat-low (pre .0) _ (pre .1) (c .seat .ensures))
 
 returns-2 : tie.Need-returns-2
 returns-2 c =

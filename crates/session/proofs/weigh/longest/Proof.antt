@@ -4,15 +4,16 @@ use native.Mathlib.Omega.{arith}
 use Rattle.session.specs.Bytes.{countOf}
 use Rattle.session.specs.Numbers.{Weighed}
 use Rattle.session.proofs.Weighed.{heaviest-longest, weighed-none, weighed-on}
+use Rattle.session.proofs.Levelled.{heaviest-from}
 use borrow.Author.Needs.{needs}
 use Rattle.session.proofs.weigh.longest.Statement.{statement}
 use Rattle.session.proofs.weigh.longest.Tie as tie
 
 abbrev Inv-loop : tie.InvT-loop
-Inv-loop session loads₀ i₀ loads i = (i ≤ countOf session) × Weighed session loads i
+Inv-loop session starts loads₀ i₀ loads i = (i ≤ countOf session) × Weighed session loads i
 
 abbrev μ-loop : tie.MeasureT-loop
-μ-loop session loads₀ i₀ loads i = i
+μ-loop session starts loads₀ i₀ loads i = i
 
 count-requires : tie.Need-count-requires Inv-loop μ-loop
 count-requires c κs = search needs
@@ -26,9 +27,7 @@ sub-i c = search needs
 weigh-requires : tie.Need-weigh-requires Inv-loop μ-loop
 weigh-requires c κs =
     let at-loop = c .before .before in
-    let after-count = at-loop .before in
-    let pre = after-count .before .pre in
-    ((pre .0, after-count .count .ensures .1, pre .1), (omega arith, weighed-on (at-loop .loop .inv .1) (omega arith)))
+    (at-loop .before .before .pre, (omega arith, weighed-on (at-loop .loop .inv .1) (omega arith)))
 
 loop-less : tie.Need-loop-less Inv-loop μ-loop
 loop-less c = search needs
@@ -39,10 +38,12 @@ loop-again c = (omega arith, c .weigh .ensures)
 most-on-requires : tie.Need-most-on-requires Inv-loop μ-loop
 most-on-requires c κs =
     let at-loop = c .before .before in
-    (at-loop .before .before .pre .0, weighed-on (at-loop .loop .inv .1) (omega arith))
+    ((at-loop .before .before .pre .0, omega arith), weighed-on (at-loop .loop .inv .1) (omega arith))
 
 returns : tie.Need-returns Inv-loop μ-loop
-returns c = heaviest-longest (c .before .before .before .before .before .pre .1 .1) (c .most-on .ensures)
+returns c =
+    let pre = c .before .before .before .before .before .pre in
+    heaviest-longest (pre .1 .1) (heaviest-from (pre .0) (c .most-on .ensures) (omega arith))
 
 pub longest-spec : {M : Type 1} → statement M
 longest-spec =

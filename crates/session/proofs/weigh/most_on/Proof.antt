@@ -1,25 +1,48 @@
 -- `session::weigh::most_on` meets its contract: the links before j are looked at. Assumes nothing.
 use mathlib.Core.Path.{_≡_}
 use mathlib.Core.Logic.{⊎-elim}
-use Prim.Native.Nat.{_-_}
+use Prim.Native.Nat.{_+_, _-_, _≤_}
 use native.Mathlib.Omega.{arith}
 use Rattle.session.specs.Bytes.{countOf}
-use Rattle.session.proofs.Weighed.{Sought, sought-start, sought-past, sought-met, sought-all}
+use Rattle.session.specs.Numbers.{startOf, levelOf}
+use Rattle.session.proofs.Weighed.{Sought, sought-past, sought-met}
+use Rattle.session.proofs.Levelled.{sought-level, sought-ended}
 use borrow.Author.Needs.{needs}
 use Rattle.session.proofs.weigh.most_on.Statement.{statement}
 use Rattle.session.proofs.weigh.most_on.Tie as tie
 
 abbrev Inv-loop : tie.InvT-loop
-Inv-loop session loads below from n most₀ j₀ most j = (n ≡ countOf session) × Sought session below from j most
+Inv-loop session starts loads below level end most₀ j₀ most j =
+    (end ≤ 64)
+    × (end ≤ countOf session)
+    × (end ≡ startOf starts (levelOf below + 1))
+    × (j ≤ countOf session)
+    × Sought session below (startOf starts (levelOf below)) j most
 
 abbrev μ-loop : tie.MeasureT-loop
-μ-loop session loads below from n most₀ j₀ most j = n - j
+μ-loop session starts loads below level end most₀ j₀ most j = end - j
 
-count-requires : tie.Need-count-requires Inv-loop μ-loop
-count-requires c κs = search needs
+add-start : tie.Need-add-start Inv-loop μ-loop
+add-start c = search needs
+
+start-requires : tie.Need-start-requires Inv-loop μ-loop
+start-requires c κs = omega (arith, c .pre .0 .1)
+
+start-requires-2 : tie.Need-start-requires-2 Inv-loop μ-loop
+start-requires-2 c κs = omega (arith, c .before .pre .0 .1)
 
 loop-holds : tie.Need-loop-holds Inv-loop μ-loop
-loop-holds c = (c .count .ensures .0, sought-start _ _ _)
+loop-holds c =
+    let at-start = c .before .before in
+    let levels = at-start .pre .0 .0 in
+    let level = levelOf (at-start .args .below) in
+    let within = levels .within (level + 1) in (
+      omega (arith, within, levels .few),
+      omega (arith, within),
+      c .before .start .ensures,
+      omega (arith, levels .within level),
+      sought-level (at-start .args .starts .now) _ (c .start2 .ensures),
+    )
 
 foot-requires : tie.Need-foot-requires Inv-loop μ-loop
 foot-requires c κs = search needs
@@ -43,14 +66,20 @@ loop-again : tie.Need-loop-again Inv-loop μ-loop
 loop-again c =
     let at-loop = c .before .before .before in
     let inv = at-loop .loop .inv in
-    let weighed = at-loop .before .before .pre .1 in (
+    let weighed = at-loop .before .before .before .pre .1 in (
       inv .0,
-      ⊎-elim (λ w. sought-met (inv .1) (omega arith) (omega arith) weighed (omega arith))
-          (λ w. sought-past (inv .1) (omega arith) (λ e. omega arith) (omega arith)) (c .if1 .came),
+      inv .1,
+      inv .2,
+      omega arith,
+      ⊎-elim (λ w. sought-met (inv .4) (omega arith) (omega arith) weighed (omega arith))
+          (λ w. sought-past (inv .4) (omega arith) (λ e. omega arith) (omega arith)) (c .if1 .came),
     )
 
 returns : tie.Need-returns Inv-loop μ-loop
-returns c = sought-all (c .before .loop .inv .1) (omega arith)
+returns c =
+    let at-loop = c .before in
+    let inv = at-loop .loop .inv in
+    sought-ended (at-loop .before .before .before .pre .0 .0) (inv .4) (omega arith) (inv .3)
 
 pub most-on-spec : {M : Type 1} → statement M
 most-on-spec =
@@ -58,7 +87,9 @@ most-on-spec =
     (tie.spec
     Inv-loop
     μ-loop
-    count-requires
+    add-start
+    start-requires
+    start-requires-2
     loop-holds
     foot-requires
     mul-larger

@@ -1,0 +1,45 @@
+-- `session::rests` meets its contract: each rule is looked at where those before it hold. Assumes nothing.
+use native.Mathlib.Omega.{arith}
+use Rattle.words.proofs.Exact.{no-exact, denied, granted}
+use borrow.Author.Needs.{needs}
+use Rattle.session.proofs.rests.Statement.{statement}
+use Rattle.session.proofs.rests.Tie as tie
+
+groups-requires : tie.Need-groups-requires
+groups-requires c κs = c .before .pre .1
+
+returns : tie.Need-returns
+returns c = no-exact (λ h. denied (c .before .groups .ensures) (c .if1 .taken) (h .groups))
+
+waiting-cap-requires : tie.Need-waiting-cap-requires
+waiting-cap-requires c κs = search needs
+
+longest-requires : tie.Need-longest-requires
+longest-requires c κs =
+    let pre = c .before .before .before .before .pre in
+    (pre .1, (_, pre .0 .1))
+
+returns-2 : tie.Need-returns-2
+returns-2 c = no-exact (λ h. let w = h .waiting in omega arith)
+
+unused-requires : tie.Need-unused-requires
+unused-requires c κs =
+    let pre = c .before .before .before .before .before .before .pre in
+    record { count = pre .1 .few; short = λ i l. pre .0 .1 .fit i l .short }
+
+returns-3 : tie.Need-returns-3
+returns-3 c =
+    let after-groups = c .before .before .before .before in (
+      λ s. c .unused .ensures .0 (s .unused),
+      λ t.
+          record {
+            groups = granted (after-groups .before .groups .ensures) (after-groups .if1 .left);
+            waiting = omega arith;
+            unused = c .unused .ensures .1 t;
+          },
+    )
+
+pub rests-spec : {M : Type 1} → statement M
+rests-spec =
+    tie.close
+    (tie.spec groups-requires returns waiting-cap-requires longest-requires returns-2 unused-requires returns-3)
