@@ -1,5 +1,7 @@
 // What is printed: a name with its number, and what a call gave and left.
 use session::places::SIZE;
+ghost use Prim.Native.Nat.{_≤_};
+ghost use lib.ListN.{length};
 
 // One line: what was tried, and the number.
 pub fn say(name: &[u8], n: u64) {
@@ -23,4 +25,19 @@ pub fn held(session: &[u8; SIZE]) {
     io::write_all(1, b" ");
     io::print_decimal(1, session::places::count(session) as u64);
     io::write_all(1, b" ");
+}
+
+// How many bytes have a value.
+pub fn having(bytes: &[u8], value: u8) -> u64
+    ensures { λ r. ⌜ r ≤ length (now (bytes .entry)) ⌝ }
+{
+    let mut sum: u64 = 0;
+    let mut i: usize = 0;
+    while i < bytes.len() {
+        if bytes[i] == value {
+            sum += 1;
+        }
+        i += 1;
+    }
+    sum
 }

@@ -1,7 +1,10 @@
 // Runs the cases that are not proved, and prints what each gives; `stdout` beside this folder holds what it must be.
 mod checks;
+mod edges;
 mod ends;
+mod joins;
 mod lines;
+mod pairs;
 mod readers;
 mod sessions;
 mod steps;
@@ -13,4 +16,6 @@ fn main() {
     sessions::all();
     steps::all();
     ends::all();
+    joins::all();
+    edges::all();
 }

@@ -46,6 +46,14 @@ fn show_body(file: &[u8])
     say(b"first row of 13", table::first_row(file, 13) as u64);
 }
 
+// The rows of a file, if it is good.
+pub fn list(file: &[u8]) {
+    match table::check(file) {
+        table::Verdict::BadTable => {}
+        table::Verdict::Taken => show_rows(file),
+    }
+}
+
 fn show_rows(file: &[u8])
     requires { ⌜ Good first (now file) ⌝ }
 {

@@ -1,4 +1,5 @@
 // Sessions: those that begin makes, those of G after some symbols, and one for each rule of soundness that it breaks.
+use crate::lines::having;
 use crate::lines::say;
 use crate::tables::g;
 use crate::tables::put;
@@ -46,16 +47,7 @@ pub fn opened(file: &[u8], session: &mut [u8; SIZE]) -> u64 {
 }
 
 fn sevens(session: &[u8; SIZE]) -> u64 {
-    let bytes = &session[..];
-    let mut sum: u64 = 0;
-    let mut i: usize = 0;
-    while i < bytes.len() {
-        if bytes[i] == 7 {
-            sum += 1;
-        }
-        i += 1;
-    }
-    sum
+    having(&session[..], 7)
 }
 
 fn begins() {

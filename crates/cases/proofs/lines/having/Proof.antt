@@ -1,17 +1,17 @@
--- `cases::sessions::sevens` meets its contract: at most one is counted for each byte passed. Assumes nothing.
+-- `cases::lines::having` meets its contract: at most one is counted for each byte passed. Assumes nothing.
 use mathlib.Core.Logic.{⊎-elim}
 use Prim.Native.Nat.{_-_, _≤_}
 use native.Mathlib.Omega.{arith}
 use lib.ListN.{length}
 use borrow.Author.Needs.{needs}
-use Rattle.cases.proofs.sessions.sevens.Statement.{statement}
-use Rattle.cases.proofs.sessions.sevens.Tie as tie
+use Rattle.cases.proofs.lines.having.Statement.{statement}
+use Rattle.cases.proofs.lines.having.Tie as tie
 
 abbrev Inv-loop : tie.InvT-loop
-Inv-loop session bytes sum₀ i₀ sum i = (i ≤ length bytes) × (sum ≤ i)
+Inv-loop bytes value sum₀ i₀ sum i = (i ≤ length bytes) × (sum ≤ i)
 
 abbrev μ-loop : tie.MeasureT-loop
-μ-loop session bytes sum₀ i₀ sum i = length bytes - i
+μ-loop bytes value sum₀ i₀ sum i = length bytes - i
 
 loop-holds : tie.Need-loop-holds Inv-loop μ-loop
 loop-holds c = search needs
@@ -35,8 +35,8 @@ loop-again c =
 returns : tie.Need-returns Inv-loop μ-loop
 returns c = search needs
 
-pub sevens-spec : {M : Type 1} → statement M
-sevens-spec =
+pub having-spec : {M : Type 1} → statement M
+having-spec =
     tie.close
     (tie.spec
     Inv-loop
