@@ -8,7 +8,7 @@ use crate::steps::message;
 use crate::tables::fork;
 use crate::tables::g;
 use crate::tables::put;
-use session::places::SIZE;
+use places::SIZE;
 ghost use Prim.Native.Nat.{_≤_};
 
 pub fn all() {

@@ -15,7 +15,7 @@ use crate::sessions::opened;
 use crate::steps::message;
 use crate::tables::put;
 use joiner::Joining;
-use session::places::SIZE;
+use places::SIZE;
 use words::wide;
 ghost use Prim.Native.Nat.{_≤_};
 

@@ -4,7 +4,7 @@ use crate::lines::say;
 use crate::tables::g;
 use crate::tables::put;
 use crate::tables::wide;
-use session::places::SIZE;
+use places::SIZE;
 ghost use Rattle.table.specs.Good.{first, Good};
 
 pub fn all() {

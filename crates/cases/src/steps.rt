@@ -9,7 +9,7 @@ use crate::tables::crowd;
 use crate::tables::g;
 use crate::tables::larger_crowd;
 use crate::tables::put;
-use session::places::SIZE;
+use places::SIZE;
 ghost use Prim.Native.Nat.{_≤_};
 
 pub fn all() {

@@ -9,7 +9,7 @@ use lib.Seq.{ext-getD, getD-take, getD-drop, length-take-le, take-take}
 use Rattle.words.specs.Words.{Word}
 use Rattle.words.proofs.Lists.{below-or}
 use Rattle.table.specs.File.{byte}
-use Rattle.session.specs.Numbers.{keyFrom}
+use Rattle.standing.specs.Numbers.{keyFrom}
 use Rattle.drafting.specs.Drafts.{slotStart, draftRoom, lengthIn, pieceIn, Filled, Written, headBytes, Holds}
 use Rattle.drafting.proofs.Written.{written-next, written-more, written-small, filled}
 use Rattle.drafting.proofs.Groups.{piece-length}

@@ -12,12 +12,12 @@ use Rattle.words.specs.Words.{Word}
 use Rattle.words.proofs.Lists.{below-or}
 use Rattle.words.proofs.Common.{common-begins}
 use Rattle.meaning.specs.Trails.{Link}
-use Rattle.session.specs.Sessions.{RisesByLink, Entry, entry}
-use Rattle.session.specs.Soundly.{piecesOn}
-use Rattle.session.specs.Bytes.{linkFrom}
-use Rattle.session.specs.Numbers.{seatFrom, footFrom}
-use Rattle.session.proofs.Tests.{pieces-in}
-use Rattle.session.proofs.Loads.{level-less}
+use Rattle.standing.specs.Sessions.{RisesByLink, Entry, entry}
+use Rattle.standing.specs.Soundly.{piecesOn}
+use Rattle.standing.specs.Bytes.{linkFrom}
+use Rattle.standing.specs.Numbers.{seatFrom, footFrom}
+use Rattle.standing.proofs.Tests.{pieces-in}
+use Rattle.standing.proofs.Loads.{level-less}
 use Rattle.stepping.specs.Stepping.{foot, seat, hasFoot, base, cut}
 use Rattle.drafting.specs.Drafts.{slotStart, lengthIn, pieceIn, draftIn, slotOf, stacked, draftsOf}
 use Rattle.drafting.specs.Cutting.{cutDraft, cutDrafts, besideOf, Handed, CutTo}

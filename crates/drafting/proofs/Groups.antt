@@ -16,9 +16,9 @@ use Rattle.words.specs.Words.{Word, Bytes, Begins, shared, common}
 use Rattle.words.proofs.Common.{shared-right, begins-take}
 use Rattle.words.proofs.Exact.{exact-same, eqb-exact}
 use Rattle.meaning.specs.Trails.{Link}
-use Rattle.session.specs.Soundly.{piecesOn}
-use Rattle.session.specs.Bytes.{linkFrom}
-use Rattle.session.specs.Numbers.{seatFrom, footFrom}
+use Rattle.standing.specs.Soundly.{piecesOn}
+use Rattle.standing.specs.Bytes.{linkFrom}
+use Rattle.standing.specs.Numbers.{seatFrom, footFrom}
 use Rattle.stepping.specs.Stepping.{seat, hasFoot, base}
 use Rattle.drafting.specs.Drafts.{slotStart, lengthIn, pieceIn, slotOf, draftsOf, Reads, Holds, footOf, PicksFoot}
 use Rattle.drafting.specs.Drafts.{FirstOn, narrowedTo, CommonOn, seatNo, footNo}

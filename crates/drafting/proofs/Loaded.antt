@@ -14,11 +14,11 @@ use borrow.Author.Count.{below-more}
 use borrow.Author.Tests.{eq-eqb, ne-eqb}
 use Rattle.words.proofs.Exact.{exact-as, exact-same, eqb-exact}
 use Rattle.meaning.specs.Trails.{ground, Link, linkOf}
-use Rattle.session.specs.Sessions.{onBottom, standsOn}
-use Rattle.session.specs.Soundly.{most, longest}
-use Rattle.session.specs.Bytes.{pair, linkFrom}
-use Rattle.session.specs.Numbers.{seatFrom, footFrom}
-use Rattle.session.proofs.Tests.{bottom-exact}
+use Rattle.standing.specs.Sessions.{onBottom, standsOn}
+use Rattle.standing.specs.Soundly.{most, longest}
+use Rattle.standing.specs.Bytes.{pair, linkFrom}
+use Rattle.standing.specs.Numbers.{seatFrom, footFrom}
+use Rattle.standing.proofs.Tests.{bottom-exact}
 use Rattle.drafting.specs.Drafts.{slotStart, draftRoom, lengthIn, pieceIn, slotOf}
 use Rattle.drafting.specs.Cutting.{cutDraft, cutDrafts, Weighable, cutLoads, cutLoad, CutWeighed, mostWith}
 use Rattle.stepping.proofs.Feet.{seat-stands, lowest-exact}

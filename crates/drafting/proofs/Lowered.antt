@@ -14,10 +14,10 @@ use Rattle.words.specs.Words.{Word, Bytes}
 use Rattle.words.proofs.Lists.{any-in, any-out, getD-map-upTo}
 use Rattle.words.proofs.Exact.{exact-same, and-exact, ltb-exact, yes-exact, no-exact}
 use Rattle.meaning.specs.Answers.{linksCap}
-use Rattle.session.specs.Sessions.{Entry}
-use Rattle.session.specs.Bytes.{linkStart, countOf, linkFrom, linkAt, pieceAt, entryAt, sessionOf, Kept, noEntry}
-use Rattle.session.specs.Numbers.{seatFrom, footFrom, keyAt}
-use Rattle.session.proofs.Bytes.{counted, long}
+use Rattle.standing.specs.Sessions.{Entry}
+use Rattle.standing.specs.Bytes.{linkStart, countOf, linkFrom, linkAt, pieceAt, entryAt, sessionOf, Kept, noEntry}
+use Rattle.standing.specs.Numbers.{seatFrom, footFrom, keyAt}
+use Rattle.standing.proofs.Bytes.{counted, long}
 use Rattle.stepping.specs.Stepping.{seat, hasFoot, lower, shake}
 use Rattle.drafting.specs.Drafts.{slotStart, draftRoom, draftIn, slotOf, draftsOf, Drafts, Filled, Footed, Stays}
 use Rattle.drafting.specs.Drafts.{AllAt, OneMore, shakenOver}

@@ -17,9 +17,9 @@ use Rattle.words.proofs.Order.{first-below}
 use Rattle.words.proofs.Exact.{exact-as}
 use Rattle.meaning.specs.Trails.{Pair, Link, pairKey, linkKey}
 use Rattle.table.specs.File.{byte}
-use Rattle.session.specs.Bytes.{pair, belowFrom, linkFrom, NoneBelow}
-use Rattle.session.specs.Numbers.{seatFrom, footFrom, keyFrom}
-use Rattle.session.proofs.Bytes.{none-some}
+use Rattle.standing.specs.Bytes.{pair, belowFrom, linkFrom, NoneBelow}
+use Rattle.standing.specs.Numbers.{seatFrom, footFrom, keyFrom}
+use Rattle.standing.proofs.Bytes.{none-some}
 use Rattle.stepping.specs.Stepping.{foot, seat, hasFoot}
 use Rattle.drafting.specs.Drafts.{pairNo, linkNo, seatNo, footNo, Plain}
 use Rattle.stepping.proofs.Feet.{foot-exact}

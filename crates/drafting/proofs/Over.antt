@@ -11,8 +11,8 @@ use Rattle.words.specs.Words.{Word}
 use Rattle.words.proofs.Lists.{below-or}
 use Rattle.meaning.specs.Trails.{Link}
 use Rattle.meaning.specs.Answers.{linksCap}
-use Rattle.session.specs.Sessions.{entry}
-use Rattle.session.specs.Bytes.{NoneBelow}
+use Rattle.standing.specs.Sessions.{entry}
+use Rattle.standing.specs.Bytes.{NoneBelow}
 use Rattle.drafting.specs.Drafts.{slotStart, draftRoom, lengthIn, draftIn, slotOf, stacked, draftsOf, Drafts}
 use Rattle.drafting.specs.Drafts.{linkNo, Plain, Filled, OneMore}
 use Rattle.drafting.proofs.Drafted.{stacked-same, none-stays, length-stays, draft-stays}

@@ -12,9 +12,9 @@ use Rattle.words.specs.Lists.{_among_}
 use Rattle.words.specs.Words.{Word}
 use Rattle.words.proofs.Lists.{below-or}
 use Rattle.meaning.specs.Trails.{Link}
-use Rattle.session.specs.Sessions.{Entry, entry}
-use Rattle.session.specs.Bytes.{linkFrom, NoneBelow}
-use Rattle.session.specs.Numbers.{seatFrom, keyFrom}
+use Rattle.standing.specs.Sessions.{Entry, entry}
+use Rattle.standing.specs.Bytes.{linkFrom, NoneBelow}
+use Rattle.standing.specs.Numbers.{seatFrom, keyFrom}
 use Rattle.stepping.specs.Stepping.{seat, base, push}
 use Rattle.drafting.specs.Drafts.{slotStart, draftRoom, lengthIn, pieceIn, draftIn, slotOf, stacked, draftsOf}
 use Rattle.drafting.specs.Drafts.{Drafts, Filled, Reads, Holds, CommonOn, aboveOf, PushedOne, Short, Pushed}

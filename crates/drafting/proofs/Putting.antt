@@ -17,9 +17,9 @@ use Rattle.words.proofs.Order.{less-self, less-trans, side-lower, side-same, si
 use Rattle.words.proofs.Exact.{exact-same, no-exact}
 use Rattle.meaning.specs.Trails.{Link}
 use Rattle.meaning.specs.Answers.{linksCap}
-use Rattle.session.specs.Sessions.{Entry, entry, RisesByLink}
-use Rattle.session.specs.Bytes.{NoneBelow}
-use Rattle.session.specs.Numbers.{keyFrom}
+use Rattle.standing.specs.Sessions.{Entry, entry, RisesByLink}
+use Rattle.standing.specs.Bytes.{NoneBelow}
+use Rattle.standing.specs.Numbers.{keyFrom}
 use Rattle.stepping.specs.Stepping.{entryKey, clashes}
 use Rattle.drafting.specs.Drafts.{slotStart, draftRoom, lengthIn, pieceIn, draftIn, slotOf, stacked, draftsOf}
 use Rattle.drafting.specs.Drafts.{Drafts, linkNo, Plain, Filled, Place, Inserted, There, Placed, NoSlot}

@@ -11,7 +11,7 @@ use lib.ListN.{length, take, drop, set, length-set, length-append, take-append-d
 use lib.Seq.{getD-set-same, getD-set-other, take-append-seam, drop-append-seam, take-all, drop-drop}
 use Rattle.words.specs.Words.{Word}
 use Rattle.words.proofs.Lists.{below-or}
-use Rattle.session.specs.Numbers.{keyFrom}
+use Rattle.standing.specs.Numbers.{keyFrom}
 use Rattle.drafting.specs.Drafts.{slotStart, slotOf, Place, Inserted}
 
 -- the first drafts have greater numbers

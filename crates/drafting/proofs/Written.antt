@@ -12,7 +12,7 @@ use lib.Seq.{take-all}
 use Rattle.words.specs.Words.{Word, Bytes}
 use Rattle.words.proofs.Lists.{below-or, byte-getD}
 use Rattle.table.specs.File.{byte}
-use Rattle.session.specs.Numbers.{keyFrom}
+use Rattle.standing.specs.Numbers.{keyFrom}
 use Rattle.drafting.specs.Drafts.{slotStart, draftRoom, workSize, lengthIn, pieceIn, Filled, Written, headBytes}
 use Rattle.drafting.proofs.Numbers.{from-number}
 

@@ -7,10 +7,10 @@ use Prim.Native.Nat.{ℕ, zero, suc, _+_, _<_, _≤_, max}
 use lib.Dec.{eqb}
 use lib.ListN.{length, getD, drop}
 use Rattle.words.specs.Words.{Word}
-use Rattle.session.specs.Sessions.{Entry, entry, RisesByLink, standsOn}
-use Rattle.session.specs.Soundly.{Load, most, loads}
-use Rattle.session.specs.Bytes.{linkFrom}
-use Rattle.session.specs.Numbers.{seatFrom, footFrom}
+use Rattle.standing.specs.Sessions.{Entry, entry, RisesByLink, standsOn}
+use Rattle.standing.specs.Soundly.{Load, most, loads}
+use Rattle.standing.specs.Bytes.{linkFrom}
+use Rattle.standing.specs.Numbers.{seatFrom, footFrom}
 use Rattle.stepping.specs.Stepping.{foot, base}
 use Rattle.drafting.specs.Drafts.{slotStart, lengthIn, pieceIn, draftIn, slotOf, stacked, draftsOf, Drafts}
 use Rattle.drafting.specs.Drafts.{aboveOf}

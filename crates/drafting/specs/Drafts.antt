@@ -14,10 +14,10 @@ use Rattle.words.specs.Order.{put}
 use Rattle.meaning.specs.Trails.{Pair, Link}
 use Rattle.meaning.specs.Answers.{linksCap}
 use Rattle.table.specs.File.{byte, two}
-use Rattle.session.specs.Sessions.{Entry, entry}
-use Rattle.session.specs.Soundly.{piecesOn}
-use Rattle.session.specs.Bytes.{linkFrom, linkAt, NoneBelow, sessionOf}
-use Rattle.session.specs.Numbers.{seatAt, footFrom, keyFrom}
+use Rattle.standing.specs.Sessions.{Entry, entry}
+use Rattle.standing.specs.Soundly.{piecesOn}
+use Rattle.standing.specs.Bytes.{linkFrom, linkAt, NoneBelow, sessionOf}
+use Rattle.standing.specs.Numbers.{seatAt, footFrom, keyFrom}
 use Rattle.stepping.specs.Stepping.{seat, lower, shake, base, push, entryKey, clashes}
 use Rattle.drafting.specs.declared.lower.Shaken.{Shaken}
 use Rattle.drafting.specs.declared.lower.Shaken.the-variants.{Full, Drafted}

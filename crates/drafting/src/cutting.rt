@@ -5,7 +5,7 @@ use words::larger;
 ghost use mathlib.Core.Path.{_≡_};
 ghost use Prim.Native.Nat.{_+_, _<_, _≤_};
 ghost use lib.ListN.{length};
-ghost use Rattle.session.specs.Soundly.{longest as longestOf};
+ghost use Rattle.standing.specs.Soundly.{longest as longestOf};
 ghost use Rattle.drafting.specs.Drafts.{Drafts};
 ghost use Rattle.drafting.specs.Cutting.{cutDrafts, besideOf, Handed, CutTo, Weighable, CutWeighed, mostWith};
 

@@ -7,7 +7,7 @@ ghost use mathlib.Core.List.{_++_};
 ghost use Prim.Native.Nat.{_+_, _≤_, _<_};
 ghost use lib.ListN.{length};
 ghost use Rattle.words.specs.Lists.{Exact};
-ghost use Rattle.session.specs.Sessions.{RisesByLink};
+ghost use Rattle.standing.specs.Sessions.{RisesByLink};
 ghost use Rattle.drafting.specs.Drafts.{draftRoom, draftsOf, Drafts, Place, Inserted, PutIn};
 
 // What became of an entry: its link is there with the same piece, with another, it is new, or there is no slot left.

@@ -1,11 +1,10 @@
 // Shaking: of the links below the new depth, those that something stands on are drafted over the new ones.
 use crate::slots;
 use crate::slots::WORK;
-use session::places;
-use session::places::SIZE;
+use places::SIZE;
 ghost use Prim.Native.Nat.{_<_};
 ghost use Rattle.words.specs.Lists.{Exact};
-ghost use Rattle.session.specs.Bytes.{countOf, entryAt, Kept};
+ghost use Rattle.standing.specs.Bytes.{countOf, entryAt, Kept};
 ghost use Rattle.drafting.specs.Drafts.{Drafts, draftsOf, Footed, Stays, AllAt, OneMore, shakenOver, ShakenTo};
 
 // What shaking answers: more than 64 are left, or how many are drafted.

@@ -1,7 +1,7 @@
 // The slots that a step drafts links in. Nobody else counts their bytes.
-use session::links::foot_from;
-use session::links::key_from;
-use session::links::seat_from;
+use places::links::foot_from;
+use places::links::key_from;
+use places::links::seat_from;
 use table::load_two;
 use words::wide;
 ghost use mathlib.Core.Path.{_≡_};
@@ -9,7 +9,7 @@ ghost use mathlib.Core.Logic.{_⊎_};
 ghost use mathlib.Core.List.{_++_};
 ghost use Prim.Native.Nat.{_+_, _≤_, _<_};
 ghost use lib.ListN.{length, take, drop};
-ghost use Rattle.session.specs.Numbers.{seatFrom, footFrom, keyFrom};
+ghost use Rattle.standing.specs.Numbers.{seatFrom, footFrom, keyFrom};
 ghost use Rattle.drafting.specs.Drafts.{slotStart, draftRoom, lengthIn, pieceIn, slotOf, Filled, Written};
 ghost use Rattle.drafting.specs.Drafts.{headBytes, Holds};
 

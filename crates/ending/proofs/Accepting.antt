@@ -12,8 +12,8 @@ use Rattle.words.proofs.Lists.{passing-in, passing-out, any-in, any-out}
 use Rattle.meaning.specs.Table.{Table}
 use Rattle.meaning.specs.Trails.{Trail, ground, over, height, Link, linkOf, links}
 use Rattle.meaning.specs.Answers.{accepts, accepted}
-use Rattle.session.specs.Sessions.{entry, Session, Has, Waits, Lies, trails}
-use Rattle.session.proofs.Listed.{trails-exact}
+use Rattle.standing.specs.Sessions.{entry, Session, Has, Waits, Lies, trails}
+use Rattle.standing.proofs.Listed.{trails-exact}
 
 module _ (T : Table) (S : Session) (flat : S .depth ≡ 0) where
   abbrev A : List Word

@@ -24,10 +24,10 @@ use Rattle.table.specs.File.{byte, tableOf}
 use Rattle.table.specs.Good.{first, Good}
 use Rattle.table.proofs.Members.{members-exact}
 use Rattle.table.proofs.Stands.{good-table}
-use Rattle.session.specs.Sessions.{Entry, entry, Session, trails, stands}
-use Rattle.session.specs.Bytes.{countOf, linkAt, pieceAt, sessionOf, SoundBytes}
-use Rattle.session.specs.Numbers.{Measured}
-use Rattle.session.proofs.ByPlace.{has-at, at-has}
+use Rattle.standing.specs.Sessions.{Entry, entry, Session, trails, stands}
+use Rattle.standing.specs.Bytes.{countOf, linkAt, pieceAt, sessionOf, SoundBytes}
+use Rattle.standing.specs.Numbers.{Measured}
+use Rattle.standing.proofs.ByPlace.{has-at, at-has}
 use Rattle.stepping.specs.Promises.{Numbered, finishOn, Finished}
 use Rattle.ending.specs.Finishing.{Ready, finalAt, FirstFinal, Like, Closed, Found}
 use Rattle.stepping.proofs.Told.{numbered-one, numbered-two, numbered-by}

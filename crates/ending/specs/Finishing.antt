@@ -7,7 +7,7 @@ use Rattle.words.specs.Words.{Bytes}
 use Rattle.table.specs.Sets.{isIn, members}
 use Rattle.table.specs.File.{byte, tableOf}
 use Rattle.table.specs.Good.{first, Good}
-use Rattle.session.specs.Bytes.{countOf, linkAt, pieceAt, SoundBytes}
+use Rattle.standing.specs.Bytes.{countOf, linkAt, pieceAt, SoundBytes}
 
 -- the file is good, of bytes as its type says, and the session is sound for its table
 pub record Ready (file session : List ℕ) : Type 0 where

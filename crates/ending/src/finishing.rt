@@ -1,15 +1,14 @@
 // The end of a message: whether it is accepted, and what still waits. No session is changed.
 use crate::sending;
-use session::places;
-use session::places::SIZE;
+use places::SIZE;
 use table::sets;
 use words::same;
 ghost use Prim.Native.Nat.{_<_};
 ghost use Rattle.words.specs.Words.{Bytes};
 ghost use Rattle.words.specs.Lists.{Exact};
 ghost use Rattle.table.specs.Good.{first, Good};
-ghost use Rattle.session.specs.Bytes.{countOf};
-ghost use Rattle.session.specs.Numbers.{Measured};
+ghost use Rattle.standing.specs.Bytes.{countOf};
+ghost use Rattle.standing.specs.Numbers.{Measured};
 ghost use Rattle.ending.specs.Calls.{Ended};
 ghost use Rattle.ending.specs.Finishing.{Ready, FirstFinal, LikeAt, Like, Found};
 

@@ -18,8 +18,8 @@ use Rattle.meaning.specs.Answers.{linksCap}
 use Rattle.table.specs.File.{byte, tableOf}
 use Rattle.table.specs.Good.{first}
 use Rattle.table.proofs.Stands.{good-table}
-use Rattle.session.specs.Sessions.{Entry, Session}
-use Rattle.session.specs.Bytes.{countOf, linkAt, entryAt, sessionOf}
+use Rattle.standing.specs.Sessions.{Entry, Session}
+use Rattle.standing.specs.Bytes.{countOf, linkAt, entryAt, sessionOf}
 use Rattle.stepping.specs.Stepping.{grow, keep, kept, shaken}
 use Rattle.drafting.specs.Drafts.{draftRoom, slotOf, draftIn, draftsOf, Drafts, Plain, AllAt, shakenOver}
 use Rattle.growing.specs.Growing.{Gathered, Usable, Fitting}

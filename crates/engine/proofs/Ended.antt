@@ -13,12 +13,12 @@ use Rattle.meaning.specs.Trails.{ground, Link, on, linkOf}
 use Rattle.table.specs.File.{tableOf}
 use Rattle.table.specs.Good.{first}
 use Rattle.table.proofs.Stands.{good-table}
-use Rattle.session.specs.Sessions.{Entry, entry, Session, Ranges, RisesByLink, Sound}
-use Rattle.session.specs.Soundly.{longest}
-use Rattle.session.specs.Bytes.{pieceRoom, linkFrom, sessionOf, bytesOf}
-use Rattle.session.specs.Numbers.{seatFrom, footFrom}
-use Rattle.session.proofs.Soundly.{lies-rooted}
-use Rattle.session.proofs.RoundTrip.{piece-short}
+use Rattle.standing.specs.Sessions.{Entry, entry, Session, Ranges, RisesByLink, Sound}
+use Rattle.standing.specs.Soundly.{longest}
+use Rattle.standing.specs.Bytes.{pieceRoom, linkFrom, sessionOf, bytesOf}
+use Rattle.standing.specs.Numbers.{seatFrom, footFrom}
+use Rattle.standing.proofs.Soundly.{lies-rooted}
+use Rattle.standing.proofs.RoundTrip.{piece-short}
 use Rattle.stepping.specs.Promises.{Stepped}
 use Rattle.stepping.specs.Stepping.{seat, grow, keep, kept, shaken, push, base, cut, stepped, sent, linkNumber}
 use Rattle.drafting.specs.Drafts.{slotStart, lengthIn, pieceIn, slotOf, draftIn, draftsOf, footNo, seatNo, Reads}

@@ -10,11 +10,11 @@ use Rattle.words.specs.Words.{Word}
 use Rattle.words.proofs.Lists.{below-or}
 use Rattle.meaning.specs.Answers.{linksCap}
 use Rattle.table.specs.File.{byte}
-use Rattle.session.specs.Sessions.{Entry}
-use Rattle.session.specs.Bytes.{linkStart, lengthStart, pieceStart, pieceRoom, size, countOf, linkFrom, Kept, noEntry}
-use Rattle.session.specs.Bytes.{linkBytes, bytesOf}
-use Rattle.session.specs.Numbers.{Tidy, Ready, Holds, Same, Put}
-use Rattle.session.proofs.Held.{held-same, same-all, same-then, none-kept, held-all, five-read}
+use Rattle.standing.specs.Sessions.{Entry}
+use Rattle.standing.specs.Bytes.{linkStart, lengthStart, pieceStart, pieceRoom, size, countOf, linkFrom, Kept, noEntry}
+use Rattle.standing.specs.Bytes.{linkBytes, bytesOf}
+use Rattle.standing.specs.Numbers.{Tidy, Ready, Holds, Same, Put}
+use Rattle.standing.proofs.Held.{held-same, same-all, same-then, none-kept, held-all, five-read}
 use Rattle.drafting.specs.Drafts.{slotStart, draftRoom, lengthIn, pieceIn, slotOf, stacked, Drafts}
 use Rattle.engine.specs.Writing.{Cuts, cutSession, PutFrom, Written}
 use Rattle.drafting.specs.Cutting.{cutDraft, cutDrafts}

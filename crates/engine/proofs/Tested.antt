@@ -9,8 +9,8 @@ use borrow.Author.Tests.{lt-ltb, le-ltb, eq-eqb, ne-eqb}
 use Rattle.words.specs.Lists.{isEmpty}
 use Rattle.meaning.specs.Table.{unused, call, return, internal, Table}
 use Rattle.meaning.specs.Answers.{linksCap}
-use Rattle.session.specs.Sessions.{Session}
-use Rattle.session.specs.Soundly.{longest}
+use Rattle.standing.specs.Sessions.{Session}
+use Rattle.standing.specs.Soundly.{longest}
 use Rattle.engine.specs.Tests.{Open}
 use Rattle.stepping.specs.Stepping.{grow, kept, shaken, conflict, stepped, sent, linkNumber}
 

@@ -9,8 +9,8 @@ use Rattle.words.specs.Lists.{isEmpty}
 use Rattle.meaning.specs.Table.{unused, call, return, is, Table}
 use Rattle.meaning.specs.Answers.{linksCap, deeper}
 use Rattle.table.specs.File.{tableOf}
-use Rattle.session.specs.Sessions.{Session}
-use Rattle.session.specs.Bytes.{linkFrom, sessionOf}
+use Rattle.standing.specs.Sessions.{Session}
+use Rattle.standing.specs.Bytes.{linkFrom, sessionOf}
 use Rattle.stepping.specs.Stepping.{grow, keep, conflict, kept, shaken, stepped, sent}
 use Rattle.drafting.specs.Drafts.{slotStart, draftRoom, lengthIn, pieceIn, slotOf, draftsOf, Drafts}
 use Rattle.drafting.specs.Cutting.{cutDrafts}

@@ -4,9 +4,9 @@ use mathlib.Core.List.{List}
 use Prim.Native.Nat.{ℕ, _-_, _<_, _≤_}
 use lib.ListN.{length, getD}
 use Rattle.meaning.specs.Answers.{linksCap}
-use Rattle.session.specs.Sessions.{Entry, Session}
-use Rattle.session.specs.Bytes.{pieceRoom, noEntry, linkBytes}
-use Rattle.session.specs.Numbers.{Holds, Same, Put}
+use Rattle.standing.specs.Sessions.{Entry, Session}
+use Rattle.standing.specs.Bytes.{pieceRoom, noEntry, linkBytes}
+use Rattle.standing.specs.Numbers.{Holds, Same, Put}
 use Rattle.drafting.specs.Drafts.{lengthIn, slotOf, Drafts}
 use Rattle.drafting.specs.Cutting.{cutDrafts}
 

@@ -1,13 +1,12 @@
 // What a step leaves: the session written over the one before, from the drafts.
 use drafting::slots;
 use drafting::slots::WORK;
-use session::places;
-use session::places::SIZE;
+use places::SIZE;
 use words::larger;
 ghost use mathlib.Core.Path.{_≡_};
 ghost use Prim.Native.Nat.{ℕ, _≤_, _<_};
-ghost use Rattle.session.specs.Bytes.{Kept, bytesOf};
-ghost use Rattle.session.specs.Numbers.{Tidy};
+ghost use Rattle.standing.specs.Bytes.{Kept, bytesOf};
+ghost use Rattle.standing.specs.Numbers.{Tidy};
 ghost use Rattle.engine.specs.Writing.{Cuts, cutSession, PutFrom, Written};
 ghost use Rattle.drafting.specs.Cutting.{cutDrafts};
 

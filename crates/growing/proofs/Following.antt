@@ -14,10 +14,10 @@ use Rattle.meaning.specs.Trails.{Link}
 use Rattle.table.specs.File.{byte, rowCount, wordOf, rowAt, tableOf}
 use Rattle.table.specs.Calls.{FirstRow}
 use Rattle.table.proofs.Stands.{rows-of}
-use Rattle.session.specs.Sessions.{Entry, entry}
-use Rattle.session.specs.Bytes.{linkStart, pieceRoom, countOf, lengthAt, linkAt, pieceAt, entryAt, sessionOf}
-use Rattle.session.specs.Numbers.{seatAt, footAt}
-use Rattle.session.proofs.Feet.{stands-foot}
+use Rattle.standing.specs.Sessions.{Entry, entry}
+use Rattle.standing.specs.Bytes.{linkStart, pieceRoom, countOf, lengthAt, linkAt, pieceAt, entryAt, sessionOf}
+use Rattle.standing.specs.Numbers.{seatAt, footAt}
+use Rattle.standing.proofs.Feet.{stands-foot}
 use Rattle.stepping.specs.Stepping.{seat, hasFoot, movedTo, fitsLink, follow, takes, grow}
 use Rattle.drafting.specs.Drafts.{draftRoom, Plain}
 use Rattle.growing.specs.Growing.{Grown, Gathers, Usable, Fitting, after, lowered, uncovered, byClass, byRow}

@@ -13,7 +13,7 @@ use Rattle.words.specs.Order.{Side, lower, same, upper, side, putBy, put}
 use Rattle.words.proofs.Lists.{each-in, each-append, upTo-in, below-or}
 use Rattle.meaning.specs.Answers.{linksCap}
 use Rattle.meaning.specs.Trails.{Link}
-use Rattle.session.specs.Sessions.{RisesByLink, Entry, entry}
+use Rattle.standing.specs.Sessions.{RisesByLink, Entry, entry}
 use Rattle.stepping.specs.Stepping.{entryKey, keep, clashes, conflict}
 use Rattle.drafting.specs.Drafts.{workSize, draftsOf, linkNo, Plain, There, Placed, NoSlot as NoRoom, Became}
 use Rattle.drafting.specs.Drafts.{PutIn}

@@ -11,8 +11,8 @@ use Rattle.meaning.specs.Table.{Class}
 use Rattle.meaning.specs.Trails.{Link}
 use Rattle.table.specs.File.{rowCount, wordOf, rowAt, tableOf}
 use Rattle.table.specs.Good.{first, Good}
-use Rattle.session.specs.Sessions.{Entry, entry}
-use Rattle.session.specs.Bytes.{countOf, linkAt, pieceAt, entryAt, sessionOf, Kept}
+use Rattle.standing.specs.Sessions.{Entry, entry}
+use Rattle.standing.specs.Bytes.{countOf, linkAt, pieceAt, entryAt, sessionOf, Kept}
 use Rattle.stepping.specs.Stepping.{seat, hasFoot, movedTo, fitsLink, follow, takes, keep, conflict}
 use Rattle.drafting.specs.Drafts.{draftRoom, draftsOf, Drafts, linkNo, Plain}
 use Rattle.growing.specs.declared.growth.Growth.{Growth}

@@ -2,8 +2,7 @@
 use drafting::keeping::Keeping;
 use drafting::keeping::put;
 use drafting::slots::WORK;
-use session::places;
-use session::places::SIZE;
+use places::SIZE;
 use table::Class;
 use words::wide;
 ghost use mathlib.Core.Path.{_≡_};
@@ -14,7 +13,7 @@ ghost use Rattle.meaning.specs.Table.{call, return, internal};
 ghost use Rattle.meaning.specs.Answers.{linksCap};
 ghost use Rattle.table.specs.File.{rowCount, rowAt, tableOf};
 ghost use Rattle.table.specs.Calls.{meant};
-ghost use Rattle.session.specs.Bytes.{countOf, linkAt, sessionOf, Kept};
+ghost use Rattle.standing.specs.Bytes.{countOf, linkAt, sessionOf, Kept};
 ghost use Rattle.stepping.specs.Stepping.{movedTo, fitsLink};
 ghost use Rattle.stepping.specs.Stepping.{grow as growOf};
 ghost use Rattle.drafting.specs.Drafts.{draftRoom, workSize, linkNo};

@@ -5,7 +5,7 @@ use Prim.Native.Nat.{ℕ, _+_, _*_, _≤_}
 use lib.ListN.{length, take}
 use Rattle.words.specs.Lists.{Exact}
 use Rattle.words.specs.Calls.{Appended}
-use Rattle.session.specs.Bytes.{sessionOf}
+use Rattle.standing.specs.Bytes.{sessionOf}
 use Rattle.stepping.specs.Promises.{Stepped, Finished}
 use Rattle.lines.specs.Text.{line, ending}
 use Rattle.lines.specs.declared.telling.Tried.{Tried}

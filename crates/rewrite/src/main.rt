@@ -6,7 +6,7 @@ use lines::Tried;
 use lines::put_end;
 use lines::put_no_table;
 use lines::put_symbol;
-use session::places::SIZE;
+use places::SIZE;
 ghost use Prim.Native.Nat.{_+_, _^_, _≤_, _<_};
 ghost use lib.ListN.{length};
 

@@ -22,14 +22,14 @@ use Rattle.table.specs.File.{tableOf}
 use Rattle.table.specs.Good.{first, Good}
 use Rattle.table.proofs.Told.{told-taken, told-bad, judged-unique}
 use Rattle.table.proofs.Stands.{starting-of}
-use Rattle.session.specs.Sessions.{Entry, Sound, trails, stands, starts, started, beginning}
-use Rattle.session.specs.Bytes.{pieceRoom, sessionOf, linkBytes, bytesOf, SoundBytes}
+use Rattle.standing.specs.Sessions.{Entry, Sound, trails, stands, starts, started, beginning}
+use Rattle.standing.specs.Bytes.{pieceRoom, sessionOf, linkBytes, bytesOf, SoundBytes}
 use Rattle.session.specs.Calls.{numberOf, statesOf, Begins, Begun}
 use Rattle.session.specs.declared.fresh.Opening.{Opening}
 use Rattle.session.specs.declared.fresh.Opening.the-variants.{Taken, BadTable}
-use Rattle.session.proofs.Beginning.{beginning-sound, beginning-stands}
-use Rattle.session.proofs.Encoded.{Fits, small-zeros, session-back, kept-of}
-use Rattle.session.proofs.RoundTrip.{bytes-one}
+use Rattle.standing.proofs.Beginning.{beginning-sound, beginning-stands}
+use Rattle.standing.proofs.Encoded.{Fits, small-zeros, session-back, kept-of}
+use Rattle.standing.proofs.RoundTrip.{bytes-one}
 
 -- links at level 0 fit, where their states are bytes
 started-fits : (l : List ℕ) → length l ≤ linksCap → ((q : ℕ) → q among l → q < 256) → Fits (started l)

@@ -12,14 +12,14 @@ use Rattle.words.proofs.Lists.{below-or, getD-byte}
 use Rattle.meaning.specs.Table.{Table}
 use Rattle.table.specs.File.{byte, tableOf}
 use Rattle.table.specs.Good.{first, Good}
-use Rattle.session.specs.Bytes.{linkStart, countOf, linkAt}
-use Rattle.session.specs.Numbers.{Lent, seatAt, footAt, keyAt, Links, startOf, levelOf, Levelled, Common}
-use Rattle.session.specs.Numbers.{Heaviest}
-use Rattle.session.proofs.Encoded.{getD-zeros}
-use Rattle.session.proofs.Passed.{Heads}
-use Rattle.session.proofs.ByPlace.{all-rise}
-use Rattle.session.proofs.Weighed.{Sought, sought-start, sought-past, sought-all}
-use Rattle.session.proofs.Started.{same-or}
+use Rattle.standing.specs.Bytes.{linkStart, countOf, linkAt}
+use Rattle.standing.specs.Numbers.{Lent, seatAt, footAt, keyAt, Links, startOf, levelOf, Levelled, Common}
+use Rattle.standing.specs.Numbers.{Heaviest}
+use Rattle.standing.proofs.Encoded.{getD-zeros}
+use Rattle.standing.proofs.Passed.{Heads}
+use Rattle.standing.proofs.ByPlace.{all-rise}
+use Rattle.standing.proofs.Weighed.{Sought, sought-start, sought-past, sought-all}
+use Rattle.standing.proofs.Started.{same-or}
 
 module _ (bytes : List ℕ) (small : Bytes bytes) where
   -- feet and seats say the level

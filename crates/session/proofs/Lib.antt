@@ -1,22 +1,3 @@
--- What follows of the definitions in `specs/`, one family of facts a file, each building on those before it.
-pub mod Tests
-pub mod Spells
-pub mod Same
-pub mod Listed
-pub mod Beginning
-pub mod Loads
-pub mod Soundly
-pub mod Bytes
-pub mod Encoded
-pub mod RoundTrip
-pub mod Passed
-pub mod Feet
-pub mod Keys
-pub mod ByPlace
-pub mod Weighed
-pub mod Started
+-- What follows of what the calls promise, and what the functions inside rest on.
 pub mod Levelled
 pub mod Began
-pub mod Clear
-pub mod Held
-mod Worked

@@ -5,8 +5,8 @@ use Prim.Native.Nat.{ℕ}
 use Rattle.meaning.specs.Answers.{opened, startingStates}
 use Rattle.table.specs.File.{tableOf}
 use Rattle.table.specs.Calls.{Judged}
-use Rattle.session.specs.Sessions.{stands}
-use Rattle.session.specs.Bytes.{sessionOf, SoundBytes}
+use Rattle.standing.specs.Sessions.{stands}
+use Rattle.standing.specs.Bytes.{sessionOf, SoundBytes}
 use Rattle.session.specs.declared.fresh.Opening.{Opening}
 use Rattle.session.specs.declared.fresh.Opening.the-variants.{Taken, BadTable}
 

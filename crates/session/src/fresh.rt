@@ -1,12 +1,12 @@
 // Beginning: a session for a table, at depth 0 in each starting state, with nothing waiting.
-use crate::places::SIZE;
-use crate::places::add_start;
-use crate::places::clear;
+use places::SIZE;
+use places::add_start;
+use places::clear;
 use table::sets;
 ghost use mathlib.Core.Path.{_≡_};
 ghost use Rattle.table.specs.Sets.{members};
-ghost use Rattle.session.specs.Sessions.{started};
-ghost use Rattle.session.specs.Bytes.{bytesOf};
+ghost use Rattle.standing.specs.Sessions.{started};
+ghost use Rattle.standing.specs.Bytes.{bytesOf};
 ghost use Rattle.session.specs.Calls.{Begun};
 
 // What `begin` answers.

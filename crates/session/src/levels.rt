@@ -1,13 +1,12 @@
 // Where the links of each level stand: links rise, the level first, so those of one level stand side by side.
-use crate::places;
-use crate::places::SIZE;
+use places::SIZE;
 use words::wide;
 ghost use mathlib.Core.Path.{_≡_};
 ghost use Prim.Native.Nat.{_<_, _≤_};
 ghost use Rattle.meaning.specs.Table.{Table};
 ghost use Rattle.table.specs.File.{byte};
-ghost use Rattle.session.specs.Bytes.{countOf};
-ghost use Rattle.session.specs.Numbers.{Links, startOf, Levelled};
+ghost use Rattle.standing.specs.Bytes.{countOf};
+ghost use Rattle.standing.specs.Numbers.{Links, startOf, Levelled};
 
 // Levels 0 to 32, that of what would stand on the last of them, and where it would end.
 pub const LEVELS: usize = 35;

@@ -1,9 +1,6 @@
-// Sessions: what their bytes stand for, which are sound for a table, and the one to begin with. Nothing outside the
-// lent bytes is read or written.
+// Sessions: which bytes are sound for a table, and those to begin with. Nothing outside the lent bytes is read or written.
 mod fresh;
 mod levels;
-pub mod links;
-pub mod places;
 mod rules;
 mod unused;
 mod weigh;
@@ -16,8 +13,8 @@ ghost use Prim.Native.Nat.{_≤_};
 ghost use Rattle.words.specs.Lists.{Exact};
 ghost use Rattle.table.specs.File.{byte, tableOf};
 ghost use Rattle.table.specs.Good.{first, Good};
-ghost use Rattle.session.specs.Bytes.{countOf, SoundBytes};
-ghost use Rattle.session.specs.Numbers.{Links, Levelled, Rests};
+ghost use Rattle.standing.specs.Bytes.{countOf, SoundBytes};
+ghost use Rattle.standing.specs.Numbers.{Links, Levelled, Rests};
 
 // Whether a session is sound for the table of a good file. The links are looked at before what rests on them, and the
 // places not used last: they are the most to look at.

@@ -1,17 +1,16 @@
 // The rules of soundness that look at links: each says whether the session keeps it.
 use crate::levels::LEVELS;
 use crate::levels::start;
-use crate::places;
-use crate::places::SIZE;
+use places::SIZE;
 ghost use mathlib.Core.Path.{_≡_};
 ghost use mathlib.Core.Logic.{_↔_};
 ghost use Prim.Native.Nat.{_≤_, _<_};
 ghost use Rattle.words.specs.Lists.{Exact};
 ghost use Rattle.table.specs.File.{tableOf};
 ghost use Rattle.table.specs.Good.{first, Good};
-ghost use Rattle.session.specs.Bytes.{countOf};
-ghost use Rattle.session.specs.Numbers.{LinkFits, Links, RootedAt, Agrees, Common, CarriesAt, Grouped};
-ghost use Rattle.session.specs.Numbers.{levelOf, Levelled};
+ghost use Rattle.standing.specs.Bytes.{countOf};
+ghost use Rattle.standing.specs.Numbers.{LinkFits, Links, RootedAt, Agrees, Common, CarriesAt, Grouped};
+ghost use Rattle.standing.specs.Numbers.{levelOf, Levelled};
 
 // "marker 0 exactly at level 0"
 fn mark_fits(level: usize, marker: usize) -> bool

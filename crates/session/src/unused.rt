@@ -1,10 +1,9 @@
 // Whether the places that a session does not use hold 0.
-use crate::places;
-use crate::places::SIZE;
+use places::SIZE;
 use words::zeros;
 ghost use Rattle.words.specs.Lists.{Exact};
-ghost use Rattle.session.specs.Bytes.{countOf, Unused};
-ghost use Rattle.session.specs.Numbers.{Measured, ClearBehind};
+ghost use Rattle.standing.specs.Bytes.{countOf, Unused};
+ghost use Rattle.standing.specs.Numbers.{Measured, ClearBehind};
 
 pub fn unused(session: &[u8; SIZE]) -> bool
     requires { ⌜ Measured (now session) ⌝ }

@@ -1,18 +1,18 @@
 // The longest waiting output, by one pass from the last link to the first: what stands on a link comes after it.
 use crate::levels::LEVELS;
 use crate::levels::start;
-use crate::places::SIZE;
-use crate::places::count;
-use crate::places::foot;
-use crate::places::piece;
-use crate::places::seat;
+use places::SIZE;
+use places::count;
+use places::foot;
+use places::piece;
+use places::seat;
 use words::larger;
 ghost use mathlib.Core.Path.{_≡_};
 ghost use Prim.Native.Nat.{_+_, _<_};
 ghost use Rattle.meaning.specs.Table.{Table};
-ghost use Rattle.session.specs.Soundly.{longest as longestOf};
-ghost use Rattle.session.specs.Bytes.{countOf, sessionOf};
-ghost use Rattle.session.specs.Numbers.{Links, startOf, levelOf, Levelled, Weighed, Heaviest};
+ghost use Rattle.standing.specs.Soundly.{longest as longestOf};
+ghost use Rattle.standing.specs.Bytes.{countOf, sessionOf};
+ghost use Rattle.standing.specs.Numbers.{Links, startOf, levelOf, Levelled, Weighed, Heaviest};
 
 // The most of the loads of the links with this foot, which are of one level; 0 where there is none.
 fn most_on(session: &[u8; SIZE], starts: &[u8; LEVELS], loads: &[usize; 64], below: usize) -> usize

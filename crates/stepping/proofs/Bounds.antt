@@ -17,12 +17,12 @@ use Rattle.meaning.specs.Table.{Class, unused, call, return, internal, is, Row,
 use Rattle.meaning.specs.Table.{Good}
 use Rattle.meaning.specs.Trails.{Trail, ground, over, height, Pair, Link, on, linkOf}
 use Rattle.meaning.specs.Answers.{deeper}
-use Rattle.session.specs.Sessions.{Entry, entry, Session, Has, Spells, Ranges, Sound}
-use Rattle.session.proofs.Tests.{as-has}
-use Rattle.session.proofs.Spells.{above-spells, level-linkOf, has-top, piece-within, lies-spelled, goes-on, stood}
-use Rattle.session.proofs.Soundly.{lies-rooted}
-use Rattle.session.proofs.Bytes.{none-some}
-use Rattle.session.proofs.RoundTrip.{piece-short}
+use Rattle.standing.specs.Sessions.{Entry, entry, Session, Has, Spells, Ranges, Sound}
+use Rattle.standing.proofs.Tests.{as-has}
+use Rattle.standing.proofs.Spells.{above-spells, level-linkOf, has-top, piece-within, lies-spelled, goes-on, stood}
+use Rattle.standing.proofs.Soundly.{lies-rooted}
+use Rattle.standing.proofs.Bytes.{none-some}
+use Rattle.standing.proofs.RoundTrip.{piece-short}
 use Rattle.stepping.specs.Stepping.{movedTo, follow, grow, conflict, keep, lower, kept, shaken, push}
 use Rattle.stepping.proofs.Feet.{seat-exact}
 use Rattle.stepping.proofs.Keep.{keep-among}

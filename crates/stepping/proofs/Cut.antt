@@ -8,9 +8,9 @@ use Rattle.words.specs.Words.{Word}
 use Rattle.words.proofs.Common.{begins-drop, common-begins, common-off}
 use Rattle.words.proofs.Order.{rises-map}
 use Rattle.meaning.specs.Trails.{Link}
-use Rattle.session.specs.Sessions.{RisesByLink, Entry, entry, AllBegin}
-use Rattle.session.specs.Soundly.{piecesOn}
-use Rattle.session.proofs.Tests.{pieces-in, pieces-out}
+use Rattle.standing.specs.Sessions.{RisesByLink, Entry, entry, AllBegin}
+use Rattle.standing.specs.Soundly.{piecesOn}
+use Rattle.standing.proofs.Tests.{pieces-in, pieces-out}
 use Rattle.stepping.specs.Stepping.{foot, hasFoot, base, entryKey, cut}
 use Rattle.stepping.proofs.Feet.{foot-exact, foot-own}
 

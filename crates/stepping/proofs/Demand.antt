@@ -21,8 +21,8 @@ use Rattle.meaning.proofs.Finish.{finish-exact, finish-only}
 use Rattle.table.specs.File.{tableOf}
 use Rattle.table.specs.Good.{first, Good}
 use Rattle.table.proofs.Stands.{good-table}
-use Rattle.session.specs.Sessions.{trails, stands}
-use Rattle.session.specs.Bytes.{sessionOf, SoundBytes}
+use Rattle.standing.specs.Sessions.{trails, stands}
+use Rattle.standing.specs.Bytes.{sessionOf, SoundBytes}
 use Rattle.stepping.specs.Promises.{Stepped, Finished, sendsOn, restOn}
 use Rattle.stepping.specs.Serving.{Served, begun, taken, refused, Demand}
 use Rattle.meaning.proofs.Alike.{Alike, alike-is, alike-then, step-alike, sends-alike, follows-alike, rest-alike}

@@ -19,9 +19,9 @@ use Rattle.meaning.specs.Answers.{first as number, outputs, sending, accepts, a
 use Rattle.table.specs.File.{tableOf}
 use Rattle.table.specs.Good.{first, Good}
 use Rattle.table.proofs.Stands.{good-table}
-use Rattle.session.specs.Sessions.{Session, Sound, trails, stands}
-use Rattle.session.specs.Bytes.{sessionOf, SoundBytes}
-use Rattle.session.proofs.Listed.{trails-exact}
+use Rattle.standing.specs.Sessions.{Session, Sound, trails, stands}
+use Rattle.standing.specs.Bytes.{sessionOf, SoundBytes}
+use Rattle.standing.proofs.Listed.{trails-exact}
 use Rattle.stepping.specs.Promises.{Numbered, numberOn, finishOn, Stepped, Finished}
 
 -- a number is given only where its test passes

@@ -9,8 +9,8 @@ use Rattle.words.specs.Words.{Word}
 use Rattle.words.proofs.Exact.{exact-as, exact-same, same-exact}
 use Rattle.meaning.specs.Trails.{Link, on, pairKey}
 use Rattle.meaning.proofs.Stands.{linkKey-one}
-use Rattle.session.specs.Sessions.{standsOn}
-use Rattle.session.proofs.Tests.{stands-exact}
+use Rattle.standing.specs.Sessions.{standsOn}
+use Rattle.standing.proofs.Tests.{stands-exact}
 use Rattle.stepping.specs.Stepping.{foot, seat, hasFoot}
 
 pub foot-exact : (f : Word) (k : Link) → Exact (foot k ≡ f) (hasFoot f k)

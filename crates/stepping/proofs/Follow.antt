@@ -16,9 +16,9 @@ use Rattle.meaning.specs.Trails.{seat as seatTrail}
 use Rattle.meaning.specs.Living.{fits}
 use Rattle.meaning.specs.Answers.{deeper}
 use Rattle.meaning.proofs.Trails.{stackOf-seat, top-seat}
-use Rattle.session.specs.Sessions.{Entry, entry, Session, Waits, Lies}
-use Rattle.session.proofs.Tests.{as-has}
-use Rattle.session.proofs.Spells.{level-linkOf, lies-spelled}
+use Rattle.standing.specs.Sessions.{Entry, entry, Session, Waits, Lies}
+use Rattle.standing.proofs.Tests.{as-has}
+use Rattle.standing.proofs.Spells.{level-linkOf, lies-spelled}
 use Rattle.stepping.specs.Stepping.{seat, hasFoot, movedTo, fitsLink, follow}
 use Rattle.stepping.proofs.Feet.{seat-exact, seat-level}
 use Rattle.stepping.proofs.Tops.{Rest, parts, joins, Tops}

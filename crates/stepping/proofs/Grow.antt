@@ -13,9 +13,9 @@ use Rattle.meaning.specs.Table.{Row, Table}
 use Rattle.meaning.specs.Trails.{Trail, ground, over, carry, Link, linkOf}
 use Rattle.meaning.specs.Living.{Place, place, fits, can, goes, moved}
 use Rattle.meaning.specs.Answers.{deeper}
-use Rattle.session.specs.Sessions.{Entry, entry, Session, Waits, Lies, Sound, trails}
-use Rattle.session.proofs.Spells.{level-linkOf, spells-one}
-use Rattle.session.proofs.Listed.{trails-exact}
+use Rattle.standing.specs.Sessions.{Entry, entry, Session, Waits, Lies, Sound, trails}
+use Rattle.standing.proofs.Spells.{level-linkOf, spells-one}
+use Rattle.standing.proofs.Listed.{trails-exact}
 use Rattle.stepping.specs.Stepping.{fitsLink, follow, takes, grow}
 use Rattle.stepping.proofs.Keep.{Clash}
 use Rattle.stepping.proofs.Tops.{Rest, Tops, atop, Topped, topped-waits, waits-topped, tops-topped}

@@ -12,7 +12,7 @@ use Rattle.words.proofs.Exact.{and-exact, not-exact, any-exact, same-exact}
 use Rattle.words.proofs.Arranged.{put-old, put-out, put-key, put-rises}
 use Rattle.meaning.specs.Trails.{Link}
 use Rattle.meaning.proofs.Stands.{linkKey-one}
-use Rattle.session.specs.Sessions.{RisesByLink, Entry, entry}
+use Rattle.standing.specs.Sessions.{RisesByLink, Entry, entry}
 use Rattle.stepping.specs.Stepping.{entryKey, keep, clashes, conflict}
 
 -- two entries have one link and different pieces

@@ -15,8 +15,8 @@ use Rattle.meaning.specs.Trails.{Trail, trailKey}
 use Rattle.meaning.specs.Living.{Place, place, moved}
 use Rattle.meaning.specs.Answers.{first, linksCap, linksOf, clash, sends, held, stepTests, stepNumber}
 use Rattle.meaning.proofs.Trails.{trailKey-one}
-use Rattle.session.specs.Sessions.{Entry, Session, Waits, Sound, trails, stands}
-use Rattle.session.specs.Soundly.{longest}
+use Rattle.standing.specs.Sessions.{Entry, Session, Waits, Sound, trails, stands}
+use Rattle.standing.specs.Soundly.{longest}
 use Rattle.stepping.specs.Stepping.{grow, conflict, kept, shaken, stepped, sent, linkTests, linkNumber}
 use Rattle.stepping.proofs.Keep.{conflict-exact}
 use Rattle.stepping.proofs.Tops.{waits-topped}

@@ -13,10 +13,10 @@ use Rattle.words.proofs.Lists.{map-same, empty-in, empty-out}
 use Rattle.words.proofs.Common.{common-among}
 use Rattle.words.proofs.Order.{rises-map}
 use Rattle.meaning.specs.Trails.{Link, pairKey}
-use Rattle.session.specs.Sessions.{RisesByLink, Entry, entry}
-use Rattle.session.specs.Soundly.{piecesOn}
-use Rattle.session.proofs.Tests.{pieces-out}
-use Rattle.session.proofs.Loads.{level-less}
+use Rattle.standing.specs.Sessions.{RisesByLink, Entry, entry}
+use Rattle.standing.specs.Soundly.{piecesOn}
+use Rattle.standing.proofs.Tests.{pieces-out}
+use Rattle.standing.proofs.Loads.{level-less}
 use Rattle.stepping.specs.Stepping.{seat, hasFoot, base, entryKey, push}
 use Rattle.stepping.proofs.Feet.{foot-level}
 

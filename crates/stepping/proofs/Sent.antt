@@ -15,11 +15,11 @@ use Rattle.meaning.specs.Trails.{Trail}
 use Rattle.meaning.specs.Living.{Place, place}
 use Rattle.meaning.specs.Answers.{outputs, held}
 use Rattle.meaning.proofs.Moment.{held-exact}
-use Rattle.session.specs.Sessions.{Lies, RisesByLink, Session, Waits}
-use Rattle.session.specs.Soundly.{longest}
-use Rattle.session.proofs.Spells.{apart-longest}
-use Rattle.session.proofs.Loads.{waits-longest, longest-waits}
-use Rattle.session.proofs.Soundly.{lies-rooted}
+use Rattle.standing.specs.Sessions.{Lies, RisesByLink, Session, Waits}
+use Rattle.standing.specs.Soundly.{longest}
+use Rattle.standing.proofs.Spells.{apart-longest}
+use Rattle.standing.proofs.Loads.{waits-longest, longest-waits}
+use Rattle.standing.proofs.Soundly.{lies-rooted}
 use Rattle.stepping.specs.Stepping.{settled, sending}
 use Rattle.stepping.proofs.Settle.{settled-rises, waits-sent, waits-settled, settled-lies, settled-apart}
 use Rattle.stepping.proofs.Settle.{settled-bottom}

@@ -14,11 +14,11 @@ use Rattle.words.specs.Words.{Word, Bytes, Begins}
 use Rattle.words.proofs.Common.{begins-ahead}
 use Rattle.meaning.specs.Trails.{Trail, ground, over, height, Link, on, linkOf, pairKey}
 use Rattle.meaning.proofs.Trails.{Under, same, more, under-height}
-use Rattle.session.specs.Sessions.{Apart, Lies, RisesByLink, Entry, entry, Session, Has, Spells, Waits, AllBegin}
-use Rattle.session.specs.Soundly.{longest}
-use Rattle.session.proofs.Tests.{as-has, all-as}
-use Rattle.session.proofs.Spells.{from-bottom, level-linkOf, links-under, piece-within, spells-under}
-use Rattle.session.proofs.Soundly.{lies-rooted, bottom-lowest, short-longest}
+use Rattle.standing.specs.Sessions.{Apart, Lies, RisesByLink, Entry, entry, Session, Has, Spells, Waits, AllBegin}
+use Rattle.standing.specs.Soundly.{longest}
+use Rattle.standing.proofs.Tests.{as-has, all-as}
+use Rattle.standing.proofs.Spells.{from-bottom, level-linkOf, links-under, piece-within, spells-under}
+use Rattle.standing.proofs.Soundly.{lies-rooted, bottom-lowest, short-longest}
 use Rattle.stepping.specs.Stepping.{foot, seat, hasFoot, base, push, settled, sending}
 use Rattle.stepping.proofs.Feet.{foot-exact, foot-own, seat-exact, foot-level}
 use Rattle.stepping.proofs.Push.{base-none, push-in, push-out, push-rises, push-links, InPiece, push-among}

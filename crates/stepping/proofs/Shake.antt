@@ -20,11 +20,11 @@ use Rattle.meaning.specs.Trails.{Trail, ground, over, height, Link, on, linkOf,
 use Rattle.meaning.specs.Living.{Place, moved}
 use Rattle.meaning.specs.Answers.{deeper, linksOf}
 use Rattle.meaning.proofs.Stands.{linkKey-one}
-use Rattle.session.specs.Sessions.{RisesByLink, Entry, entry, Session, Has, Spells, Waits, Lies, Sound, trails}
-use Rattle.session.proofs.Tests.{as-has}
-use Rattle.session.proofs.Spells.{level-linkOf, has-top, links-under, spells-under, TopOf, lies-spelled, spelled-lies}
-use Rattle.session.proofs.Spells.{Stood}
-use Rattle.session.proofs.Loads.{level-less}
+use Rattle.standing.specs.Sessions.{RisesByLink, Entry, entry, Session, Has, Spells, Waits, Lies, Sound, trails}
+use Rattle.standing.proofs.Tests.{as-has}
+use Rattle.standing.proofs.Spells.{level-linkOf, has-top, links-under, spells-under, TopOf, lies-spelled, spelled-lies}
+use Rattle.standing.proofs.Spells.{Stood}
+use Rattle.standing.proofs.Loads.{level-less}
 use Rattle.stepping.specs.Stepping.{grow, entryKey, keep, conflict, lower, kept, carried, shake, shaken}
 use Rattle.stepping.proofs.Feet.{seat-exact}
 use Rattle.stepping.proofs.Keep.{Linked, keep-among, keep-old, keep-in, keep-linked, keep-rises, keep-append}

@@ -16,10 +16,10 @@ use Rattle.meaning.specs.Trails.{Link}
 use Rattle.meaning.specs.Living.{Place, moved}
 use Rattle.meaning.specs.Answers.{linksCap, sends, follows}
 use Rattle.meaning.proofs.Tests.{Fails, fails}
-use Rattle.session.specs.Sessions.{entry, Session, Has, Waits, Ranges, Sound, trails, stands}
-use Rattle.session.specs.Soundly.{longest}
-use Rattle.session.proofs.Spells.{has-top}
-use Rattle.session.proofs.Listed.{trails-exact}
+use Rattle.standing.specs.Sessions.{entry, Session, Has, Waits, Ranges, Sound, trails, stands}
+use Rattle.standing.specs.Soundly.{longest}
+use Rattle.standing.proofs.Spells.{has-top}
+use Rattle.standing.proofs.Listed.{trails-exact}
 use Rattle.stepping.specs.Stepping.{grow, conflict, kept, shaken, stepped, sent, linkTests, linkNumber}
 use Rattle.stepping.proofs.Shake.{shaken-rises, shaken-lies}
 use Rattle.stepping.proofs.Settle.{settled-length, settled-links, settled-bytes, settled-rises, settled-lies}

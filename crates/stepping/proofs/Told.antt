@@ -18,9 +18,9 @@ use Rattle.meaning.proofs.Tests.{absent, fails}
 use Rattle.table.specs.File.{tableOf}
 use Rattle.table.specs.Good.{first, Good}
 use Rattle.table.proofs.Stands.{good-table}
-use Rattle.session.specs.Sessions.{Session, Sound, trails, stands}
-use Rattle.session.specs.Bytes.{sessionOf, bytesOf, SoundBytes}
-use Rattle.session.proofs.RoundTrip.{decoded, encoded-sound, bytes-one}
+use Rattle.standing.specs.Sessions.{Session, Sound, trails, stands}
+use Rattle.standing.specs.Bytes.{sessionOf, bytesOf, SoundBytes}
+use Rattle.standing.proofs.RoundTrip.{decoded, encoded-sound, bytes-one}
 use Rattle.stepping.specs.Stepping.{stepped, sent, linkNumber}
 use Rattle.stepping.specs.Promises.{Numbered, numberOn, sendsOn, followsOn, Stepped, finishOn, restOn, Finished}
 use Rattle.stepping.proofs.Number.{number-exact}

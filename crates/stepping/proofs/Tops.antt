@@ -10,8 +10,8 @@ use Rattle.words.specs.Lists.{_among_}
 use Rattle.words.specs.Words.{Word}
 use Rattle.words.proofs.Lists.{passing-in, passing-out}
 use Rattle.meaning.specs.Trails.{Trail, ground, over, height, Link, linkOf}
-use Rattle.session.specs.Sessions.{Entry, entry, Session, Has, Spells, Waits}
-use Rattle.session.proofs.Spells.{level-linkOf}
+use Rattle.standing.specs.Sessions.{Entry, entry, Session, Has, Spells, Waits}
+use Rattle.standing.proofs.Spells.{level-linkOf}
 use Rattle.stepping.specs.Stepping.{lower}
 
 -- what a trail spells below its top, and at its top

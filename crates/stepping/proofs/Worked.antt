@@ -5,7 +5,7 @@ use Prim.Native.Nat.{ℕ}
 use Rattle.words.specs.Words.{Word}
 use Rattle.meaning.specs.Trails.{ground, over, linkOf}
 use Rattle.meaning.proofs.Worked.{G}
-use Rattle.session.specs.Sessions.{Entry, entry, Session, beginning}
+use Rattle.standing.specs.Sessions.{Entry, entry, Session, beginning}
 use Rattle.stepping.specs.Stepping.{stepped, sent, linkNumber}
 
 abbrev high : ℕ → Word → Entry

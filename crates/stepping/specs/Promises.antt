@@ -10,8 +10,8 @@ use Rattle.meaning.specs.Living.{Place}
 use Rattle.meaning.specs.Answers.{Moment, stepNumber, sends, follows, accepted, finishNumber}
 use Rattle.table.specs.File.{tableOf}
 use Rattle.table.specs.Good.{first, Good}
-use Rattle.session.specs.Sessions.{trails, stands}
-use Rattle.session.specs.Bytes.{sessionOf, SoundBytes}
+use Rattle.standing.specs.Sessions.{trails, stands}
+use Rattle.standing.specs.Bytes.{sessionOf, SoundBytes}
 
 -- 1 BadTable: "the file breaks a rule above"; 2 BadSession: "not sound for this table"; else the number by the trails
 pub record Numbered (file session : List ℕ) (by-trails number : ℕ) : Type 0 where

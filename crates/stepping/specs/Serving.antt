@@ -10,7 +10,7 @@ use Rattle.meaning.specs.Runs.{depth}
 use Rattle.meaning.specs.Sentences.{First, Agreed, stepSentences, finishSentences, Only}
 use Rattle.table.specs.File.{tableOf}
 use Rattle.table.specs.Good.{first, Good}
-use Rattle.session.specs.Bytes.{sessionOf, SoundBytes}
+use Rattle.standing.specs.Bytes.{sessionOf, SoundBytes}
 use Rattle.session.specs.Calls.{Begins}
 use Rattle.stepping.specs.Promises.{Stepped, Finished}
 

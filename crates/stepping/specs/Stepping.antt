@@ -11,8 +11,8 @@ use Rattle.words.specs.Order.{sameWord, put}
 use Rattle.meaning.specs.Table.{Class, unused, call, return, internal, is, Row, Table}
 use Rattle.meaning.specs.Trails.{Link, on, pairKey, linkKey}
 use Rattle.meaning.specs.Answers.{first, linksCap, deeper}
-use Rattle.session.specs.Sessions.{Entry, entry, Session}
-use Rattle.session.specs.Soundly.{piecesOn, longest}
+use Rattle.standing.specs.Sessions.{Entry, entry, Session}
+use Rattle.standing.specs.Soundly.{piecesOn, longest}
 
 -- what a link stands on: its level and the pair below it; and what those above it stand on
 abbrev pub foot : Link → Word

@@ -1,7 +1,7 @@
 -- `session::sound` meets its contract: each rule is looked at where those before it hold. Assumes nothing.
 use native.Mathlib.Omega.{arith}
 use Rattle.words.proofs.Exact.{denied, granted}
-use Rattle.session.proofs.ByPlace.{by-place, not-sound}
+use Rattle.standing.proofs.ByPlace.{by-place, not-sound}
 use Rattle.session.proofs.Levelled.{shallow}
 use borrow.Author.Needs.{needs}
 use Rattle.session.proofs.sound.Statement.{statement}

@@ -3,7 +3,7 @@ use mathlib.Core.Path.{_≡_, _∙_, ap}
 use Prim.Native.Nat.{ℕ, _-_, _≤_, _<_}
 use native.Mathlib.Omega.{arith}
 use borrow.Author.Count.{below-more}
-use Rattle.session.specs.Numbers.{seatFrom, footFrom}
+use Rattle.standing.specs.Numbers.{seatFrom, footFrom}
 use Rattle.drafting.specs.Drafts.{slotStart, slotOf}
 use Rattle.drafting.proofs.Beside.{cut-handed, cut-sent}
 use borrow.Author.Needs.{needs}

@@ -3,7 +3,7 @@ use mathlib.Core.Path.{_≡_, sym, _∙_, ap}
 use mathlib.Core.Logic.{⊎-elim}
 use Prim.Native.Nat.{ℕ, _-_, _≤_}
 use native.Mathlib.Omega.{arith}
-use Rattle.session.specs.Numbers.{footFrom}
+use Rattle.standing.specs.Numbers.{footFrom}
 use Rattle.drafting.specs.Drafts.{slotStart, slotOf}
 use Rattle.drafting.specs.Cutting.{mostWith}
 use Rattle.drafting.proofs.Loaded.{most-start, most-met, most-past}

@@ -4,7 +4,7 @@ use mathlib.Core.Path.{_≡_, _∙_, ap}
 use Prim.Native.Nat.{ℕ, _+_, _-_}
 use native.Mathlib.Omega.{arith}
 use lib.ListN.{getD}
-use Rattle.session.specs.Numbers.{seatFrom}
+use Rattle.standing.specs.Numbers.{seatFrom}
 use Rattle.drafting.specs.Drafts.{slotStart, lengthIn, slotOf}
 use Rattle.drafting.specs.Cutting.{cutLoad}
 use Rattle.drafting.proofs.Loaded.{cut-load-small, with-above, load-next}

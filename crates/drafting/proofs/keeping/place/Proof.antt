@@ -4,7 +4,7 @@ use Prim.Native.Nat.{ℕ, _-_, _≤_}
 use native.Mathlib.Omega.{arith}
 use Rattle.drafting.proofs.Turns.{Above, above-none, above-more, above-place}
 use mathlib.Core.List.{List}
-use Rattle.session.specs.Numbers.{keyFrom}
+use Rattle.standing.specs.Numbers.{keyFrom}
 use Rattle.drafting.specs.Drafts.{slotStart, slotOf}
 use borrow.Author.Needs.{needs}
 use Rattle.drafting.proofs.keeping.place.Statement.{statement}

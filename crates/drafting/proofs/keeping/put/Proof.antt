@@ -10,7 +10,7 @@ use borrow.Author.Needs.{needs}
 use Rattle.words.specs.Lists.{Exact}
 use Rattle.words.specs.Words.{Word}
 use Rattle.words.proofs.Exact.{exact-as}
-use Rattle.session.specs.Numbers.{keyFrom}
+use Rattle.standing.specs.Numbers.{keyFrom}
 use Rattle.drafting.specs.Drafts.{slotStart, draftRoom, lengthIn, pieceIn, slotOf}
 use Rattle.drafting.proofs.Putting.{same-piece, other-piece, no-slot, placed}
 use Rattle.drafting.proofs.keeping.put.Statement.{statement}

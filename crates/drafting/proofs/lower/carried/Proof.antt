@@ -4,7 +4,7 @@ use Prim.Native.Nat.{ℕ, _-_, _<_}
 use native.Mathlib.Omega.{arith}
 use borrow.Author.Count.{below-more}
 use Rattle.words.proofs.Exact.{yes-exact, no-exact}
-use Rattle.session.specs.Numbers.{footFrom}
+use Rattle.standing.specs.Numbers.{footFrom}
 use Rattle.drafting.specs.Drafts.{slotStart, slotOf}
 use borrow.Author.Needs.{needs}
 use Rattle.drafting.proofs.lower.carried.Statement.{statement}

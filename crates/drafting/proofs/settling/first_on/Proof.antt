@@ -4,7 +4,7 @@ use Prim.Native.Nat.{ℕ, _-_, _≤_, _<_}
 use native.Mathlib.Omega.{arith}
 use borrow.Author.Count.{below-more}
 use borrow.Author.Needs.{needs}
-use Rattle.session.specs.Numbers.{footFrom}
+use Rattle.standing.specs.Numbers.{footFrom}
 use Rattle.drafting.specs.Drafts.{slotStart, footOf}
 use Rattle.drafting.proofs.Groups.{holds}
 use Rattle.drafting.proofs.settling.first_on.Statement.{statement}

@@ -4,7 +4,7 @@ use Prim.Native.Nat.{_≤_, max}
 use native.Mathlib.Nat.{max-le, le-max-left, le-max-right}
 use native.Mathlib.Omega.{arith}
 use borrow.Author.Needs.{needs}
-use Rattle.session.proofs.Held.{tidy-kept}
+use Rattle.standing.proofs.Held.{tidy-kept}
 use Rattle.engine.proofs.Rewritten.{written-all}
 use Rattle.engine.proofs.write.write.Statement.{statement}
 use Rattle.engine.proofs.write.write.Tie as tie

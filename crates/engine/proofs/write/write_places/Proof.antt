@@ -3,7 +3,7 @@ use mathlib.Core.Path.{_≡_}
 use Prim.Native.Nat.{_-_, _≤_, _<_}
 use native.Mathlib.Omega.{arith}
 use borrow.Author.Needs.{needs}
-use Rattle.session.proofs.Held.{tidy-same}
+use Rattle.standing.proofs.Held.{tidy-same}
 use Rattle.engine.specs.Writing.{Written}
 use Rattle.drafting.specs.Cutting.{cutDrafts}
 use Rattle.engine.proofs.Rewritten.{written-none, written-more}

@@ -5,7 +5,7 @@ use lib.Dec.{eqb}
 use Rattle.meaning.specs.Table.{Class, call, return, internal}
 use Rattle.table.specs.File.{rowAt}
 use Rattle.table.specs.Calls.{meant}
-use Rattle.session.specs.Bytes.{linkAt}
+use Rattle.standing.specs.Bytes.{linkAt}
 use Rattle.stepping.specs.Stepping.{fitsLink}
 use Rattle.growing.proofs.Following.{fromHere, fits-not, fits-from}
 use borrow.Author.Needs.{needs}

@@ -2,7 +2,7 @@
 use mathlib.Core.Path.{_≡_, ap}
 use Prim.Native.Nat.{ℕ, _+_, _-_, _≤_}
 use native.Mathlib.Omega.{arith}
-use Rattle.session.specs.Bytes.{countOf}
+use Rattle.standing.specs.Bytes.{countOf}
 use Rattle.session.proofs.Levelled.{Found, found-start, found-next, found-all}
 use borrow.Author.Needs.{needs}
 use Rattle.session.proofs.levels.find.Statement.{statement}

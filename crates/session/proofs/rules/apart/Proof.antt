@@ -5,9 +5,9 @@ use mathlib.Core.Logic.{⊎-elim}
 use Prim.Native.Nat.{_+_, _-_, _≤_}
 use native.Mathlib.Omega.{arith}
 use Rattle.words.proofs.Exact.{yes-exact, no-exact, denied, granted}
-use Rattle.session.specs.Bytes.{countOf}
-use Rattle.session.specs.Numbers.{startOf, levelOf}
-use Rattle.session.proofs.Passed.{Heads, heads-next, heads-skip, heads-apart}
+use Rattle.standing.specs.Bytes.{countOf}
+use Rattle.standing.specs.Numbers.{startOf, levelOf}
+use Rattle.standing.proofs.Passed.{Heads, heads-next, heads-skip, heads-apart}
 use Rattle.session.proofs.Levelled.{heads-level, heads-ended}
 use borrow.Author.Needs.{needs}
 use Rattle.session.proofs.rules.apart.Statement.{statement}

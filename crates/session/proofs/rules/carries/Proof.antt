@@ -5,7 +5,7 @@ use Prim.Native.Nat.{ℕ}
 use native.Mathlib.Omega.{arith}
 use Rattle.words.specs.Lists.{Exact}
 use Rattle.words.proofs.Exact.{yes-exact}
-use Rattle.session.specs.Numbers.{Common}
+use Rattle.standing.specs.Numbers.{Common}
 use Rattle.session.proofs.Levelled.{seat-low}
 use borrow.Author.Needs.{needs}
 use Rattle.session.proofs.rules.carries.Statement.{statement}

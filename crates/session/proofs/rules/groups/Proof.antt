@@ -4,8 +4,8 @@ use Prim.Native.Nat.{ℕ, _-_, _<_}
 use native.Mathlib.Omega.{arith}
 use borrow.Author.Count.{below-more}
 use Rattle.words.proofs.Exact.{yes-exact, no-exact, denied, granted}
-use Rattle.session.specs.Bytes.{countOf}
-use Rattle.session.specs.Numbers.{RootedAt, CarriesAt}
+use Rattle.standing.specs.Bytes.{countOf}
+use Rattle.standing.specs.Numbers.{RootedAt, CarriesAt}
 use borrow.Author.Needs.{needs}
 use Rattle.session.proofs.rules.groups.Statement.{statement}
 use Rattle.session.proofs.rules.groups.Tie as tie

@@ -6,8 +6,8 @@ use Prim.Native.Nat.{ℕ, _-_, _/_, _<_, _≤_}
 use native.Mathlib.Omega.{arith}
 use borrow.Author.Count.{below-more}
 use Rattle.words.proofs.Exact.{yes-exact, no-exact}
-use Rattle.session.specs.Bytes.{countOf, linkAt}
-use Rattle.session.specs.Numbers.{seatAt, footAt, startOf, levelOf}
+use Rattle.standing.specs.Bytes.{countOf, linkAt}
+use Rattle.standing.specs.Numbers.{seatAt, footAt, startOf, levelOf}
 use Rattle.session.proofs.Levelled.{foot-level, seat-after, seat-before, over-bottom}
 use borrow.Author.Needs.{needs}
 use Rattle.session.proofs.rules.rooted.Statement.{statement}

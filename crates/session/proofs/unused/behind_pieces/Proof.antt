@@ -4,8 +4,8 @@ use native.Mathlib.Omega.{arith}
 use borrow.Author.Count.{below-more}
 use borrow.Author.Needs.{needs}
 use Rattle.words.proofs.Exact.{yes-exact, no-exact, denied, granted}
-use Rattle.session.specs.Numbers.{ClearBehind}
-use Rattle.session.proofs.Clear.{clear-exact}
+use Rattle.standing.specs.Numbers.{ClearBehind}
+use Rattle.standing.proofs.Clear.{clear-exact}
 use Rattle.session.proofs.unused.behind_pieces.Statement.{statement}
 use Rattle.session.proofs.unused.behind_pieces.Tie as tie
 

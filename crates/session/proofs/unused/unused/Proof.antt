@@ -1,7 +1,7 @@
 -- `session::unused::unused` meets its contract. Assumes nothing.
 use borrow.Author.Needs.{needs}
 use Rattle.words.proofs.Exact.{no-exact, denied, granted, exact-as}
-use Rattle.session.proofs.Clear.{clear-exact, unused-behind, clear-unused}
+use Rattle.standing.proofs.Clear.{clear-exact, unused-behind, clear-unused}
 use Rattle.session.proofs.unused.unused.Statement.{statement}
 use Rattle.session.proofs.unused.unused.Tie as tie
 

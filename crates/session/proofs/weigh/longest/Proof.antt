@@ -1,9 +1,9 @@
 -- `session::weigh::longest` meets its contract: the links from i on are weighed. Assumes nothing.
 use Prim.Native.Nat.{_≤_}
 use native.Mathlib.Omega.{arith}
-use Rattle.session.specs.Bytes.{countOf}
-use Rattle.session.specs.Numbers.{Weighed}
-use Rattle.session.proofs.Weighed.{heaviest-longest, weighed-none, weighed-on}
+use Rattle.standing.specs.Bytes.{countOf}
+use Rattle.standing.specs.Numbers.{Weighed}
+use Rattle.standing.proofs.Weighed.{heaviest-longest, weighed-none, weighed-on}
 use Rattle.session.proofs.Levelled.{heaviest-from}
 use borrow.Author.Needs.{needs}
 use Rattle.session.proofs.weigh.longest.Statement.{statement}

@@ -3,9 +3,9 @@ use mathlib.Core.Path.{_≡_}
 use mathlib.Core.Logic.{⊎-elim}
 use Prim.Native.Nat.{_+_, _-_, _≤_}
 use native.Mathlib.Omega.{arith}
-use Rattle.session.specs.Bytes.{countOf}
-use Rattle.session.specs.Numbers.{startOf, levelOf}
-use Rattle.session.proofs.Weighed.{Sought, sought-past, sought-met}
+use Rattle.standing.specs.Bytes.{countOf}
+use Rattle.standing.specs.Numbers.{startOf, levelOf}
+use Rattle.standing.proofs.Weighed.{Sought, sought-past, sought-met}
 use Rattle.session.proofs.Levelled.{sought-level, sought-ended}
 use borrow.Author.Needs.{needs}
 use Rattle.session.proofs.weigh.most_on.Statement.{statement}

@@ -3,8 +3,8 @@ use mathlib.Core.Path.{_≡_}
 use Prim.Native.Nat.{_+_}
 use native.Mathlib.Omega.{arith}
 use lib.ListN.{length}
-use Rattle.session.specs.Numbers.{loadAt}
-use Rattle.session.proofs.Weighed.{loads-small, heaviest-load, weighed-on, weighed-next}
+use Rattle.standing.specs.Numbers.{loadAt}
+use Rattle.standing.proofs.Weighed.{loads-small, heaviest-load, weighed-on, weighed-next}
 use Rattle.session.proofs.Levelled.{heaviest-from, seat-past, seat-low}
 use borrow.Author.Needs.{needs}
 use Rattle.session.proofs.weigh.weigh.Statement.{statement}

@@ -1,0 +1,125 @@
+-- Which byte of a session says what: depth, count, five bytes for each link, two for the length of each piece, and 512
+-- places for each piece, one after the other.
+use mathlib.Core.Path.{_≡_}
+use mathlib.Core.Bool.{cond}
+use mathlib.Core.Option.{Option, some, none}
+use mathlib.Core.List.{List, [], _∷_, map}
+use Prim.Native.Nat.{ℕ, _+_, _-_, _*_, _/_, _%_, _<_, _≤_}
+use lib.Dec.{eqb, ltb}
+use lib.ListN.{length, getD, take, drop}
+use Rattle.words.specs.Lists.{upTo}
+use Rattle.words.specs.Words.{Word, Bytes}
+use Rattle.meaning.specs.Table.{Table}
+use Rattle.meaning.specs.Trails.{Pair, Link}
+use Rattle.meaning.specs.Answers.{linksCap}
+use Rattle.table.specs.File.{byte, two}
+use Rattle.standing.specs.Sessions.{Entry, entry, Session, Sound}
+
+abbrev pub linkStart : ℕ → ℕ
+linkStart i = 2 + 5 * i
+
+abbrev pub lengthStart : ℕ → ℕ
+lengthStart i = 322 + 2 * i
+
+abbrev pub pieceStart : ℕ → ℕ
+pieceStart i = 450 + 512 * i
+
+abbrev pub pieceRoom : ℕ
+pieceRoom = 512
+
+abbrev pub size : ℕ
+size = 33218
+
+abbrev pub countOf : List ℕ → ℕ
+countOf bytes = byte bytes 1
+
+abbrev pub lengthAt : List ℕ → ℕ → ℕ
+lengthAt bytes i = two bytes (lengthStart i)
+
+abbrev pub pair : ℕ → ℕ → Pair
+pair q m = record { state = q; marker = m }
+
+-- the five bytes of a link, from a place on: level, pair, and the pair below, which a link at level 0 has none of
+abbrev pub belowFrom : List ℕ → ℕ → Pair
+belowFrom bytes k = pair (byte bytes (k + 3)) (byte bytes (k + 4))
+
+abbrev pub linkFrom : List ℕ → ℕ → Link
+linkFrom bytes k =
+    record {
+      level = byte bytes k;
+      here = pair (byte bytes (k + 1)) (byte bytes (k + 2));
+      below = cond (eqb (byte bytes k) 0) none (some (belowFrom bytes k));
+    }
+
+abbrev pub belowAt : List ℕ → ℕ → Pair
+belowAt bytes i = belowFrom bytes (linkStart i)
+
+abbrev pub linkAt : List ℕ → ℕ → Link
+linkAt bytes i = linkFrom bytes (linkStart i)
+
+-- a link at level 0 has nothing below, which is not used
+abbrev pub NoneBelow : List ℕ → ℕ → Type 0
+NoneBelow bytes k = byte bytes k ≡ 0 → (byte bytes (k + 3) ≡ 0) × (byte bytes (k + 4) ≡ 0)
+
+abbrev pub pieceAt : List ℕ → ℕ → Word
+pieceAt bytes i = take (lengthAt bytes i) (drop (pieceStart i) bytes)
+
+-- the session that the bytes stand for
+abbrev pub entryAt : List ℕ → ℕ → Entry
+entryAt bytes i = entry (linkAt bytes i) (pieceAt bytes i)
+
+abbrev pub sessionOf : List ℕ → Session
+sessionOf bytes = record { depth = byte bytes 0; entries = map (entryAt bytes) (upTo (countOf bytes)) }
+
+-- "places not used hold 0": of links, of lengths, of pieces behind their lengths, of pieces
+pub record Unused (bytes : List ℕ) : Type 0 where
+  pub links : (k : ℕ) → linkStart (countOf bytes) ≤ k → k < lengthStart 0 → byte bytes k ≡ 0
+  pub lengths : (k : ℕ) → lengthStart (countOf bytes) ≤ k → k < pieceStart 0 → byte bytes k ≡ 0
+  pub pieces : (i : ℕ) → i < countOf bytes → (j : ℕ) → lengthAt bytes i ≤ j → j < pieceRoom
+      → byte bytes (pieceStart i + j) ≡ 0
+  pub rest : (k : ℕ) → pieceStart (countOf bytes) ≤ k → k < size → byte bytes k ≡ 0
+
+-- "Pieces are kept in the order of their links, and places not used hold 0"
+pub record Kept (bytes : List ℕ) : Type 0 where
+  pub whole : length bytes ≡ size
+  pub small : Bytes bytes
+  pub count : countOf bytes ≤ linksCap
+  pub below : (i : ℕ) → i < countOf bytes → NoneBelow bytes (linkStart i)
+  pub short : (i : ℕ) → i < countOf bytes → lengthAt bytes i ≤ pieceRoom
+  pub unused : Unused bytes
+
+-- the bytes are a session that is sound for a table
+pub record SoundBytes (T : Table) (bytes : List ℕ) : Type 0 where
+  pub kept : Kept bytes
+  pub sound : Sound T (sessionOf bytes)
+
+-- the bytes of a session: a place that is not used is of no entry, and holds 0
+abbrev pub noEntry : Entry
+noEntry = entry (record { level = 0; here = pair 0 0; below = none }) []
+
+abbrev pub entryOf : Session → ℕ → Entry
+entryOf S i = getD (S .entries) i noEntry
+
+abbrev pub belowBytes : Option Pair → List ℕ
+belowBytes none = 0 ∷ 0 ∷ []
+belowBytes (some p) = p .state ∷ p .marker ∷ []
+
+abbrev pub linkBytes : Link → List ℕ
+linkBytes l = l .level ∷ l .here .state ∷ l .here .marker ∷ belowBytes (l .below)
+
+abbrev pub lengthBytes : Word → List ℕ
+lengthBytes x = length x % 256 ∷ length x / 256 ∷ []
+
+-- of things of `w` bytes that stand one after the other from `s` on, the byte at `k`
+abbrev pub cell : ℕ → ℕ → (ℕ → List ℕ) → ℕ → ℕ
+cell s w things k = getD (things ((k - s) / w)) ((k - s) % w) 0
+
+abbrev pub byteOf : Session → ℕ → ℕ
+byteOf S k =
+    cond (ltb k (linkStart 0)) (getD (S .depth ∷ length (S .entries) ∷ []) k 0)
+    (cond (ltb k (lengthStart 0)) (cell (linkStart 0) 5 (λ i. linkBytes (entryOf S i .link)) k)
+    (cond (ltb k (pieceStart 0)) (cell (lengthStart 0) 2 (λ i. lengthBytes (entryOf S i .piece)) k)
+    (cell (pieceStart 0) pieceRoom (λ i. entryOf S i .piece) k)))
+
+unfoldable pub bytesOf : Session → List ℕ
+bytesOf S = map (byteOf S) (upTo size)
