@@ -1,13 +1,13 @@
--- What a return row gives, mark after mark: the marks by their keys on a shelf, and the number of each. Assumes nothing.
+-- What a return row gives, mark after mark: the marks by their keys on a shelf, and the number of each. Assumes
+-- nothing.
 use mathlib.Core.Path.{_≡_, refl, sym, _∙_, ap}
-use mathlib.Core.Bool.{Bool, false, true}
-use mathlib.Core.List.{List, [], _∷_, _++_, map, reverse, reverse-reverse, append-nil, Memᴰ·map, Memᴰ·of-map, Memᴰ·cast}
+use mathlib.Core.Bool.{Bool}
+use mathlib.Core.List.{List, [], _∷_, map, reverse, reverse-reverse, append-nil, Memᴰ·map, Memᴰ·of-map, Memᴰ·cast}
 use Prim.Native.Nat.{ℕ, suc, _+_, _-_, _<_, _≤_}
 use native.Mathlib.Nat.{zero-add}
 use native.Mathlib.Numerals.{add-one}
 use native.Mathlib.Omega.{arith}
 use borrow.Author.Tests.{eq-eqb, ne-eqb}
-use lib.Dec.{eqb}
 use lib.ListN.{length, getD, take, drop, length-reverse}
 use lib.Seq.{take-all, take-length, paste, take-paste}
 use Rattle.words.specs.Lists.{_among_, each, only, upTo}
@@ -15,8 +15,8 @@ use Rattle.words.specs.Words.{Word}
 use Rattle.words.specs.Order.{rank}
 use Rattle.words.proofs.Lists.{each-map, upTo-in}
 use Rattle.words.proofs.Order.{less-self, rises-out}
-use Rattle.meaning.specs.Table.{Class, return, Table, rowKey}
-use Rattle.meaning.specs.Joining.{Mark, mark, markKey, pushed, marks, number, startsOf, rowsFrom}
+use Rattle.meaning.specs.Table.{Class, return, Row, rowKey}
+use Rattle.meaning.specs.Joining.{Mark, mark, markKey, marks, number, startsOf, rowsFrom}
 use Rattle.meaning.proofs.Reading.{run-level}
 use Rattle.meaning.proofs.Joined.{marks-out, steps, call-start}
 use Rattle.table.specs.File.{rowAt, tableOf}
@@ -25,7 +25,8 @@ use Rattle.shelf.proofs.Lists.{rank-at}
 use Rattle.shelf.proofs.Laws.{shelved-none}
 use Rattle.shelf.proofs.Keys.{keys-kept, keys-rank}
 use Rattle.nesting.proofs.Levels.{level-small}
-use Rattle.joiner.specs.Gathering.{Small, Marked, closeGoal, foundBy, markOf, givenFrom, givenAt, pushedKeys}
+use Rattle.joiner.specs.Gathering.{Small, Marked, closeGoal, foundBy, markOf, givenFrom, givenAt}
+use Rattle.joiner.specs.Gathering.{allMarks, pushedKeys}
 use Rattle.joiner.specs.declared.reading.Goal.{Goal}
 use Rattle.joiner.specs.declared.gathering.Wanted.{Wanted}
 use Rattle.joiner.specs.declared.gathering.Wanted.the-variants.{Marks, Rows}
@@ -50,14 +51,8 @@ pub marked-all : {a b keys edges turns : List ℕ} {count used : ℕ}
 marked-all {a} {b} h l =
     record {
       numbered = record { standing = h .standing; most = l };
-      are = λ e. h .are ∙ sym (keys-kept markKey (each (λ x. each (pushed A B x) (upTo (B .states))) (A .rows)));
+      are = λ e. h .are ∙ sym (keys-kept markKey (allMarks (tableOf a) (tableOf b)));
     }
-  where
-    A : Table
-    A = tableOf a
-
-    B : Table
-    B = tableOf b
 
 -- a mark is known by its key
 mark-back : (y : Mark) → markOf (markKey y) ≡ y
@@ -135,10 +130,11 @@ module _ {a b keys edges turns : List ℕ} {count : ℕ} (k : Marked Rows a b ke
         → each (λ i. givenFrom a b x q (markOf (key i))) (upTo count) ≡ givenAt Rows a b x q
     unfolding givenFrom givenAt
     returns-all c =
+        let rows : Class → List ℕ → List Row = λ k. rowsFrom (tableOf b) L k (rowAt a x) q in
         by-place (givenFrom a b x q)
         ∙ sym
-        (ap (λ (k : Class). map rowKey (each (rowsFrom (tableOf b) L k (rowAt a x) q) (startsOf L k (rowAt a x .marker)))) c
-        ∙ ap (map rowKey) (each-each (rowsFrom (tableOf b) L return (rowAt a x) q) _ L)
+        (ap (λ (k : Class). map rowKey (each (rows k) (startsOf L k (rowAt a x .marker)))) c
+        ∙ ap (map rowKey) (each-each (rows return) _ L)
         ∙ map-each rowKey _ L)
 
     -- one that has the row's marker

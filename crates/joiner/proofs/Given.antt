@@ -2,10 +2,9 @@
 use mathlib.Core.Path.{_≡_, refl, sym, _∙_, ap}
 use mathlib.Core.Bool.{Bool, true, false}
 use mathlib.Core.List.{List, [], _∷_, _++_, map, map-append, append-nil, Memᴰ·map, List·Memᴰ·head}
-use Prim.Native.Nat.{ℕ, suc, _+_, _<_, _≤_}
+use Prim.Native.Nat.{ℕ, suc, _+_, _<_}
 use native.Mathlib.Nat.{mul-le-mul-right}
 use native.Mathlib.Omega.{arith}
-use lib.ListN.{length}
 use Rattle.words.specs.Lists.{_among_, each, only, isEmpty, upTo}
 use Rattle.words.specs.Words.{Word}
 use Rattle.words.specs.Order.{rank}
@@ -13,21 +12,20 @@ use Rattle.words.proofs.Lists.{each-map}
 use Rattle.meaning.specs.Table.{Class, unused, call, return, internal, is, Row, Table, rowKey, edition1, GoodRow}
 use Rattle.meaning.specs.Table.{Good as GoodTable}
 use Rattle.meaning.specs.Runs.{Config, config}
-use Rattle.meaning.specs.Joining.{readings, pair, Mark, mark, markKey, pushed, marks, number, startsOf, leaves, markerOf}
-use Rattle.meaning.specs.Joining.{joinedRow, rowsFrom, rowsOf}
+use Rattle.meaning.specs.Joining.{readings, pair, Mark, mark, markKey, pushed, marks, number, startsOf, leaves}
+use Rattle.meaning.specs.Joining.{markerOf, joinedRow, rowsFrom, rowsOf}
 use Rattle.meaning.proofs.Reading.{endings-out, run-inside}
 use Rattle.meaning.proofs.Joined.{Joins, marks-in}
 use Rattle.table.specs.File.{rowCount, wordOf, rowAt, tableOf}
 use Rattle.table.proofs.Stands.{good-table, rows-of}
 use Rattle.shelf.proofs.Keys.{keys-rank}
 use Rattle.nesting.proofs.ByRow.{row-among}
-use Rattle.joiner.specs.Reading.{joinedKey, leftKey, leftNumber, keysOf, Suited, findings}
+use Rattle.joiner.specs.Reading.{leftKey, leftNumber, keysOf, Suited, findings}
 use Rattle.joiner.specs.Gathering.{Small, At, callGoal, closeGoal, planOf, foundBy, givenAt, givenBy, given}
 use Rattle.joiner.specs.Gathering.{pushedKeys, joinedKeys}
 use Rattle.joiner.specs.declared.reading.Goal.{Goal}
 use Rattle.joiner.specs.declared.gathering.Wanted.{Wanted}
 use Rattle.joiner.specs.declared.gathering.Wanted.the-variants.{Marks, Rows}
-use Rattle.joiner.specs.declared.gathering.Plan.{Plan}
 use Rattle.joiner.specs.declared.gathering.Plan.the-variants.{Skip, Read, FromMarks}
 
 -- lists: nothing is made of any; a function after another
@@ -76,10 +74,10 @@ module _ (a b : List ℕ) where
 
 module _ {a b : List ℕ} (s : Small a b) where
   second-good : GoodTable edition1 (tableOf b)
-  second-good = good-table (omega arith) b (s .bytes) (s .hops .second)
+  second-good = good-table (omega arith) b (s .hops .second-bytes) (s .hops .second)
 
   row-good : (x : ℕ) → x < rowCount a → GoodRow edition1 (tableOf a) (rowAt a x)
-  row-good x l = good-table (omega arith) a (s .hops .bytes) (s .hops .first) .row (rowAt a x) (row-among a x l)
+  row-good x l = good-table (omega arith) a (s .hops .first-bytes) (s .hops .first) .row (rowAt a x) (row-among a x l)
 
   pair-small : {p q : ℕ} → p < tableOf a .states → q < tableOf b .states → pair (tableOf b .states) p q < 64
   pair-small l m = let e = mul-le-mul-right (tableOf b .states) l in omega (arith, s .states)
@@ -196,9 +194,10 @@ module _ (a b : List ℕ) (x q : ℕ) where
         → foundBy a b keys (callGoal wanted a b x q) x q [] ≡ givenAt wanted a b x q
     unfolding findings givenAt
     found-call Marks are c =
+        let left : Config → Mark = λ e. mark (r .marker) (e .stack) in
         sym
-        (ap (λ (k : Class). map markKey (each (λ e. only (is k call) (mark (r .marker) (e .stack))) (readings B r q []))) c
-        ∙ map-each markKey (λ e. only true (mark (r .marker) (e .stack))) (readings B r q []))
+        (ap (λ (k : Class). map markKey (each (λ e. only (is k call) (left e)) (readings B r q []))) c
+        ∙ map-each markKey (λ e. only true (left e)) (readings B r q []))
     found-call Rows are c = rows-one call [] (callGoal Rows a b x q) (call-keys (are refl)) ∙ one-start c refl
 
     found-internal : Of internal → foundBy a b keys (closeGoal a b x q 0) x q [] ≡ givenAt Rows a b x q

@@ -1,35 +1,50 @@
--- What `join` knows once the joined rows stand on a shelf: whether they are too large, and what is written. Assumes nothing.
-use mathlib.Core.Path.{_≡_, refl, sym, _∙_, ap, subst}
+-- What `join` knows once the joined rows stand on a shelf: whether they are too large, and what is written. Assumes
+-- nothing.
+use mathlib.Core.Path.{_≡_, sym, _∙_, ap, subst}
 use mathlib.Core.Logic.{_⊎_, inl, inr}
 use mathlib.Core.List.{List, _++_, map, Memᴰ·map, Memᴰ·of-map}
 use Prim.Native.Nat.{ℕ, _+_, _-_, _*_, _<_, _≤_}
 use native.Mathlib.Nat.{mul-le-mul-left}
 use native.Mathlib.Omega.{arith}
 use lib.ListN.{length, drop, length-map, length-reverse}
-use Rattle.words.specs.Lists.{_among_, each, upTo}
+use Rattle.words.specs.Lists.{_among_, upTo}
 use Rattle.words.specs.Words.{Word}
 use Rattle.words.specs.Calls.{Appended}
-use Rattle.words.proofs.Lists.{upTo-in, upTo-out, below-or, length-upTo}
+use Rattle.words.proofs.Lists.{upTo-in, upTo-out, below-or}
 use Rattle.meaning.specs.Table.{Row, Table, rowKey, edition1}
 use Rattle.meaning.specs.Runs.{said}
-use Rattle.meaning.specs.Joining.{markKey, pushed, marks, joined, fileSize}
+use Rattle.meaning.specs.Joining.{markKey, marks, joined, fileSize}
 use Rattle.meaning.specs.Sentences.{LongWord, TooLarge}
 use Rattle.table.specs.File.{tableOf}
 use Rattle.table.specs.Good.{first as edition}
 use Rattle.table.proofs.Stands.{good-table}
-use Rattle.joining.specs.Promises.{joinedFile, Joins}
+use Rattle.joining.specs.Promises.{Joins}
 use Rattle.joining.proofs.Laid.{file-length}
 use Rattle.joining.proofs.Told.{joins-too-large, joins-no-room, joins-taken}
 use Rattle.shelf.specs.Shelved.{wordAt, wordsOf, kept, Held}
-use Rattle.shelf.proofs.Lists.{kept-exact}
+use Rattle.shelf.proofs.Lists.{kept-exact, words-count}
 use Rattle.shelf.proofs.Laws.{Outgrown}
 use Rattle.shelf.proofs.Keys.{keys-kept, outgrown-short}
-use Rattle.laying.specs.Written.{pairedFile, Laying}
+use Rattle.nesting.specs.Nesting.{Hops}
+use Rattle.laying.specs.Written.{pairedFile, Pair, Laying}
 use Rattle.laying.specs.declared.Sizes.{Sizes}
 use Rattle.laying.proofs.Joined.{count-is, outgrown-rows, stood-keys, stood-words, Lays, lays-asked, lays-file}
-use Rattle.joiner.specs.Gathering.{pushedKeys, joinedKeys}
-use Rattle.joiner.specs.Hopping.{allRows, Both, Nested, Joinable, LongKey, Rowed}
+use Rattle.joiner.specs.Gathering.{allMarks, allRows, pushedKeys, joinedKeys}
+use Rattle.joiner.specs.Hopping.{Nested, LongKey, Rowed}
 use Rattle.joiner.proofs.FromMarks.{left-short}
+
+-- no word is long
+pub not-long : (k : ℕ) (T : Table) → (LongWord k T → ⊥) → (s : Row) → s among T .rows → length (s .word) ≤ k
+not-long k T n s m = go (below-or k (length (s .word)))
+  where
+    go : (k < length (s .word)) ⊎ (length (s .word) ≤ k) → length (s .word) ≤ k
+    go (inl l) = absurd (n (s, m, l))
+    go (inr l) = l
+
+-- what `laying` asks of two tables
+nested-pair : {one two : List ℕ} → Nested one two → Pair one two
+nested-pair n =
+    record { first = n .small .hops .first; second = n .small .hops .second; few = n .small .states }
 
 module _ {one two : List ℕ} {markers : ℕ} {arena starts order : List ℕ} {count used : ℕ}
     (r : Rowed one two markers arena starts order count used) where
@@ -57,27 +72,22 @@ module _ {one two : List ℕ} {markers : ℕ} {arena starts order : List ℕ} {c
   -- a long key is the key of a row with a long word, and the other way round
   long-word : LongKey arena starts order count → LongWord 255 J
   long-word k =
-      let at = Memᴰ·map (wordAt arena starts order) (upTo-in count (k .at) (k .within)) in
-      let x = Memᴰ·of-map rowKey (J .rows) (subst (λ (l : List Word). wordAt arena starts order (k .at) among l) keys at) in
+      let word = wordAt arena starts order in
+      let at = Memᴰ·map word (upTo-in count (k .at) (k .within)) in
+      let x = Memᴰ·of-map rowKey (J .rows) (subst (λ (l : List Word). word (k .at) among l) keys at) in
       (x .0, x .1, omega (arith, ap length (x .2), k .long))
 
-  short-words : (LongKey arena starts order count → ⊥) → (s : Row) → s among J .rows → length (s .word) ≤ 255
-  short-words n s m =
-      let at = subst (λ (l : List Word). rowKey s among l) (sym keys) (Memᴰ·map rowKey m) in
+  long-key : LongWord 255 J → LongKey arena starts order count
+  long-key w =
+      let at = subst (λ (l : List Word). rowKey (w .0) among l) (sym keys) (Memᴰ·map rowKey (w .1)) in
       let x = Memᴰ·of-map (wordAt arena starts order) (upTo count) at in
-      go (x .0) (upTo-out count (x .0) (x .1)) (x .2) (below-or 255 (length (s .word)))
-    where
-      go : (i : ℕ) → i < count → wordAt arena starts order i ≡ rowKey s
-          → (255 < length (s .word)) ⊎ (length (s .word) ≤ 255) → length (s .word) ≤ 255
-      go i lt e (inl l) =
-          absurd (n (record { at = i; within = lt; long = omega (arith, ap length e) }))
-      go i lt e (inr l) = l
+      record { at = x .0; within = upTo-out count (x .0) (x .1); long = omega (arith, ap length (x .2), w .2) }
 
   module _ (out : List ℕ) where
     large : TooLarge edition1 A B → Joins one two out 15 0 0 out
     large l =
-        let p = r .joinable .pair in
-        joins-too-large one two out (p .first) (p .second) (r .joinable .nest) l
+        let h = r .nested .small .hops in
+        joins-too-large one two out (h .first) (h .second) (r .nested .nest) l
 
     pub hopped-long : LongKey arena starts order count → Joins one two out 15 0 0 out
     hopped-long k = large (inr (inr (inr (inr (inl (long-word k))))))
@@ -87,11 +97,11 @@ module _ {one two : List ℕ} {markers : ℕ} {arena starts order : List ℕ} {c
 
     module _ (short : LongKey arena starts order count → ⊥) (few : used - 4 * count ≤ 4096) where
       small : TooLarge edition1 A B → ⊥
-      small (inl l) = r .joinable .short l
-      small (inr (inl l)) = omega (arith, r .joinable .pair .few)
+      small (inl l) = omega (arith, l .2, r .nested .small .words (l .0) (l .1))
+      small (inr (inl l)) = omega (arith, r .nested .small .states)
       small (inr (inr (inl l))) = omega (arith, r .numbers, r .few)
       small (inr (inr (inr (inl l)))) = omega (arith, many, r .held .standing .few)
-      small (inr (inr (inr (inr (inl l))))) = omega (arith, l .2, short-words short (l .0) (l .1))
+      small (inr (inr (inr (inr (inl l))))) = short (long-key l)
       small (inr (inr (inr (inr (inr l))))) = omega (arith, bytes)
 
       size : fileSize J ≡ 300 + 8 * count + (used - 4 * count)
@@ -99,18 +109,18 @@ module _ {one two : List ℕ} {markers : ℕ} {arena starts order : List ℕ} {c
 
       pub hopped-no-room : length out < 300 + 8 * count + (used - 4 * count) → Joins one two out 10 0 0 out
       hopped-no-room l =
-          let p = r .joinable .pair in
-          joins-no-room one two out (p .first) (p .second) (r .joinable .nest) small (omega (arith, size))
+          let h = r .nested .small .hops in
+          joins-no-room one two out (h .first) (h .second) (r .nested .nest) small (omega (arith, size))
 
       module _ (room : 300 + 8 * count + (used - 4 * count) ≤ length out) (sizes : Sizes)
           (m : sizes .markers ≡ markers) (n : sizes .rows ≡ count) (w : sizes .words ≡ used - 4 * count) where
         lays : Lays one two sizes arena starts order out
         lays =
             record {
-              tables = r .joinable .pair;
+              tables = nested-pair (r .nested);
               standing = rw n (r .held .standing);
               are = rw n keys;
-              short = short-words short;
+              short = not-long 255 J (λ w. short (long-key w));
               markers = m ∙ r .numbers;
               few = omega (arith, r .few);
               words = omega (arith, bytes);
@@ -123,38 +133,21 @@ module _ {one two : List ℕ} {markers : ℕ} {arena starts order : List ℕ} {c
         pub hopped-taken : {c : ℕ} {out′ : List ℕ}
             → Appended out 0 (pairedFile one two sizes arena starts order) c out′ → Joins one two out 0 0 c out′
         hopped-taken {c} {out′} a =
-            let p = r .joinable .pair in
+            let h = r .nested .small .hops in
             let f = lays-file lays in
-            joins-taken one two out (p .first) (p .second) (r .joinable .nest) small (omega (arith, size))
+            joins-taken one two out (h .first) (h .second) (r .nested .nest) small (omega (arith, size))
             (omega (arith, a .next, ap length f, file-length J))
             (a .is ∙ ap (λ (v : List ℕ). v ++ drop c out) f)
 
--- no word is long
-pub not-long : (k : ℕ) (T : Table) → (LongWord k T → ⊥) → (s : Row) → s among T .rows → length (s .word) ≤ k
-not-long k T n s m = go (below-or k (length (s .word)))
-  where
-    go : (k < length (s .word)) ⊎ (length (s .word) ≤ k) → length (s .word) ≤ k
-    go (inl l) = absurd (n (s, m, l))
-    go (inr l) = l
-
 -- the pairs of states of two good tables are few enough to be counted
-pub pairs-small : {one two : List ℕ} → Both one two → tableOf one .states * tableOf two .states ≤ 4096
-pairs-small {one} {two} b =
-    let h = b .hops in
-    let s = good-table {E = edition} (omega arith) one (h .bytes) (h .first) .states .1 in
-    let t = good-table {E = edition} (omega arith) two (b .bytes) (h .second) .states .1 in
+pub pairs-small : {one two : List ℕ} → Hops one two → tableOf one .states * tableOf two .states ≤ 4096
+pairs-small {one} {two} h =
+    let s = good-table {E = edition} (omega arith) one (h .first-bytes) (h .first) .states .1 in
+    let t = good-table {E = edition} (omega arith) two (h .second-bytes) (h .second) .states .1 in
     omega (arith, mul-le-mul-left (tableOf one .states) t)
 
 -- before that: the tests on words and states, then the joined markers on a shelf
 module _ {one two : List ℕ} (n : Nested one two) where
-  pub nested-joinable : Joinable one two
-  nested-joinable =
-      record {
-        pair = record { first = n .small .hops .first; second = n .small .hops .second; few = n .small .states };
-        nest = n .nest;
-        short = λ l. omega (arith, l .2, n .small .words (l .0) (l .1));
-      }
-
   abbrev C : Table
   C = tableOf one
 
@@ -162,7 +155,7 @@ module _ {one two : List ℕ} (n : Nested one two) where
   D = tableOf two
 
   marks-are : map markKey (marks C D) ≡ kept (pushedKeys C D)
-  marks-are = keys-kept markKey (each (λ x. each (pushed C D x) (upTo (D .states))) (C .rows))
+  marks-are = keys-kept markKey (allMarks C D)
 
   key-short : (w : Word) → w among pushedKeys C D → length w ≤ 17
   key-short w m =
@@ -190,20 +183,20 @@ module _ {one two : List ℕ} (n : Nested one two) where
     pub nested-rows-full : Outgrown (joinedKeys C D) → Joins one two out 15 0 0 out
     nested-rows-full o = nested-large (inr (inr (inr (go (outgrown-rows (allRows C D) o)))))
       where
-        go : (256 < length (joined C D .rows)) ⊎ (4096 < length (said (joined C D .rows)))
-            → (256 < length (joined C D .rows)) ⊎ (LongWord 255 (joined C D) ⊎ (4096 < length (said (joined C D .rows))))
+        go : {P Q S : Type 0} → P ⊎ S → P ⊎ (Q ⊎ S)
         go (inl l) = inl l
         go (inr l) = inr (inr l)
 
     module _ {keys edges turns : List ℕ} {count used : ℕ} (h : Held (pushedKeys C D) keys edges turns count used) where
       marks-count : count ≡ length (marks C D)
       marks-count =
-          sym (length-map (upTo count) (wordAt keys edges turns) ∙ length-upTo count)
-          ∙ ap length (h .are ∙ sym marks-are) ∙ length-map (marks C D) markKey
+          sym (words-count keys edges turns count)
+          ∙ ap length (h .are ∙ sym marks-are)
+          ∙ length-map (marks C D) markKey
 
       pub nested-marks-over : 64 < count → Joins one two out 15 0 0 out
       nested-marks-over l = nested-large (inr (inr (inl (omega (arith, marks-count)))))
 
       pub nested-rowed : count ≤ 64 → {arena starts order : List ℕ} {c u : ℕ}
           → Held (joinedKeys C D) arena starts order c u → Rowed one two count arena starts order c u
-      nested-rowed l j = record { joinable = nested-joinable; numbers = marks-count; few = l; held = j }
+      nested-rowed l j = record { nested = n; numbers = marks-count; few = l; held = j }

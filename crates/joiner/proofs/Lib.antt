@@ -6,3 +6,4 @@ pub mod Findings
 pub mod Given
 pub mod FromMarks
 pub mod Hopped
+pub mod Told

@@ -5,7 +5,7 @@ use Prim.Native.Nat.{ℕ, _*_, _<_, _≤_}
 use lib.Dec.{eqb}
 use lib.ListN.{length, getD, drop}
 use Rattle.words.specs.Lists.{_among_, each, only, upTo}
-use Rattle.words.specs.Words.{Word, Bytes}
+use Rattle.words.specs.Words.{Word}
 use Rattle.meaning.specs.Table.{Class, unused, call, return, internal, Row, Table, rowKey}
 use Rattle.meaning.specs.Runs.{config}
 use Rattle.meaning.specs.Joining.{pair, Mark as JoinedMark, mark, markKey, pushed, marks, rowsFrom, rowsOf}
@@ -23,7 +23,6 @@ use Rattle.joiner.specs.declared.gathering.Plan.the-variants.{Skip, Read
 -- not yet TooLarge: no "word of the first is over 16 bytes", no "states over 64"
 pub record Small (a b : List ℕ) : Type 0 where
   pub hops : Hops a b
-  pub bytes : Bytes b
   pub words : (r : Row) → r among tableOf a .rows → length (r .word) ≤ 16
   pub states : tableOf a .states * tableOf b .states ≤ 64
 
@@ -53,8 +52,8 @@ closeGoal a b x q number =
     let n = tableOf b .states in
     Close (r .symbol) (pair n (r .from) q) (pair n (r .to) 0) number
 
--- "Joined markers are those that a joined call row pushes"; "from an empty stack of its own", but "a return row's reading
--- starts from the list in the popped marker"
+-- "Joined markers are those that a joined call row pushes"; "from an empty stack of its own", but "a return row's
+-- reading starts from the list in the popped marker"
 abbrev pub planOf : Wanted → Class → List ℕ → List ℕ → ℕ → ℕ → Plan
 planOf wanted unused a b x q = Skip
 planOf wanted call a b x q = Read (callGoal wanted a b x q)
@@ -91,9 +90,15 @@ givenBy wanted a b x = each (givenAt wanted a b x) (upTo (tableOf b .states))
 abbrev pub given : Wanted → List ℕ → List ℕ → List Word
 given wanted a b = each (givenBy wanted a b) (upTo (rowCount a))
 
--- the keys of the marks and of the rows, before equal ones count once
+-- all marks and all rows, before equal ones count once; their keys
+abbrev pub allMarks : Table → Table → List JoinedMark
+allMarks A B = each (λ x. each (pushed A B x) (upTo (B .states))) (A .rows)
+
+abbrev pub allRows : Table → Table → List Row
+allRows A B = each (λ x. each (rowsOf A B (marks A B) x) (upTo (B .states))) (A .rows)
+
 abbrev pub pushedKeys : Table → Table → List Word
-pushedKeys A B = map markKey (each (λ x. each (pushed A B x) (upTo (B .states))) (A .rows))
+pushedKeys A B = map markKey (allMarks A B)
 
 abbrev pub joinedKeys : Table → Table → List Word
-joinedKeys A B = map rowKey (each (λ x. each (rowsOf A B (marks A B) x) (upTo (B .states))) (A .rows))
+joinedKeys A B = map rowKey (allRows A B)

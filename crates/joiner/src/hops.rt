@@ -12,7 +12,8 @@ ghost use Rattle.meaning.specs.Sentences.{LongWord};
 ghost use Rattle.table.specs.File.{tableOf};
 ghost use Rattle.table.specs.Good.{first as edition, Good};
 ghost use Rattle.shelf.specs.Shelved.{Standing};
-ghost use Rattle.joiner.specs.Hopping.{Both, Nested, LongKey, Marked, Rowed};
+ghost use Rattle.nesting.specs.Nesting.{Hops};
+ghost use Rattle.joiner.specs.Hopping.{Nested, LongKey, Marked, Rowed};
 ghost use Rattle.joiner.specs.Calls.{JoinedBy};
 
 // What `join` answers.
@@ -49,7 +50,7 @@ fn on_first(first: &[u8], second: &[u8], out: &mut [u8]) -> Joining
 
 // And a good second one: whether they nest, and whether the first's words and the pairs of states are few enough.
 fn on_both(first: &[u8], second: &[u8], out: &mut [u8]) -> Joining
-    requires { ⌜ Both (now first) (now second) ⌝ }
+    requires { ⌜ Hops (now first) (now second) ⌝ }
     ensures { λ r. ⌜
         JoinedBy (now (first .entry)) (now (second .entry)) (now (out .entry)) r (now (out .exit)) ⌝ }
 {

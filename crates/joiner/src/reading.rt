@@ -11,6 +11,7 @@ use words::wide;
 ghost use mathlib.Core.Path.{_≡_};
 ghost use mathlib.Core.List.{[], _∷_, reverse};
 ghost use Prim.Native.Nat.{_+_, _<_, _≤_};
+ghost use lib.ListN.{length};
 ghost use Rattle.words.specs.Lists.{each};
 ghost use Rattle.meaning.specs.Table.{return};
 ghost use Rattle.meaning.specs.Runs.{config};
@@ -337,6 +338,58 @@ pub fn read(
             shelf,
         );
     }
+    read_on(
+        second,
+        word,
+        state,
+        stack,
+        height,
+        out,
+        long,
+        goal,
+        keys,
+        edges,
+        turns,
+        marks,
+        arena,
+        starts,
+        order,
+        shelf,
+    )
+}
+
+// The same of a word that is not empty, by each row of its first byte.
+fn read_on(
+    second: &[u8],
+    word: &[u8],
+    state: usize,
+    stack: &mut [u8; 32],
+    height: usize,
+    out: &mut [u8; 4096],
+    long: usize,
+    goal: Goal,
+    keys: &[u8; ROOM],
+    edges: &[usize; 257],
+    turns: &[u8; 256],
+    marks: usize,
+    arena: &mut [u8; ROOM],
+    starts: &mut [usize; 257],
+    order: &mut [u8; 256],
+    shelf: Shelf,
+) -> Shelf
+    requires { ⌜ (Reads (now second) height long (now word)) × (0 < length (now word)) ⌝ }
+    requires { ⌜ Numbered (now keys) (now edges) (now turns) marks ⌝ }
+    requires { ⌜ Suited (wordsOf (now keys) (now edges) (now turns) marks) goal
+        (endings (tableOf (now second)) (now word) (configOf state (now stack) height (now out) long)) ⌝ }
+    requires { ⌜ Ready (now arena) (now starts) (now order) shelf ⌝ }
+    ensures { λ a. ⌜ Gathers
+        (findings (now (second .entry))
+        (wordsOf (now (keys .entry)) (now (edges .entry)) (now (turns .entry)) marks) goal
+        (now (word .entry)) (configOf state (now (stack .entry)) height (now (out .entry)) long))
+        (now (arena .entry)) (now (starts .entry)) (now (order .entry)) shelf
+        a (now (arena .exit)) (now (starts .exit)) (now (order .exit)) ⌝ }
+    ensures { λ _. ⌜ Untouched (now (stack .entry)) (now (out .entry)) long (now (stack .exit)) (now (out .exit)) ⌝ }
+{
     let symbol = word[0];
     let rest = &word[1..];
     let class = table::class_of(second, symbol);

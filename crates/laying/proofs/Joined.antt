@@ -6,10 +6,10 @@ use mathlib.Core.List.{List, [], _∷_, map, Memᴰ·map, Memᴰ·of-map}
 use Prim.Native.Nat.{ℕ, _+_, _*_, _<_, _≤_}
 use native.Mathlib.Omega.{arith}
 use lib.ListN.{length, length-append, length-map}
-use Rattle.words.specs.Lists.{_among_, upTo}
+use Rattle.words.specs.Lists.{_among_}
 use Rattle.words.specs.Words.{Word}
 use Rattle.words.specs.Order.{arranged}
-use Rattle.words.proofs.Lists.{upTo-in, length-upTo, below-or}
+use Rattle.words.proofs.Lists.{upTo-in, below-or}
 use Rattle.meaning.specs.Table.{Row, Table, rowKey}
 use Rattle.meaning.specs.Runs.{said}
 use Rattle.meaning.specs.Joining.{marks, joined, fileSize}
@@ -17,6 +17,7 @@ use Rattle.table.specs.File.{tableOf}
 use Rattle.joining.specs.Laid.{fileOf}
 use Rattle.joining.specs.Promises.{joinedFile}
 use Rattle.shelf.specs.Shelved.{wordAt, wordsOf, kept, total, Standing, Held}
+use Rattle.shelf.proofs.Lists.{words-count}
 use Rattle.shelf.proofs.Laws.{Outgrown}
 use Rattle.shelf.proofs.Keys.{keys-kept}
 use Rattle.laying.specs.Written.{keyRow, rowsIn, paired, pairedFile, Pair, Key, Laying}
@@ -27,7 +28,7 @@ use Rattle.laying.proofs.Rows.{key-row}
 module _ (R : List Row) (arena starts order : List ℕ) (n : ℕ) (are : wordsOf arena starts order n ≡ map rowKey R) where
   pub count-is : n ≡ length R
   count-is =
-      sym (length-map (upTo n) (wordAt arena starts order) ∙ length-upTo n) ∙ ap length are ∙ length-map R rowKey
+      sym (words-count arena starts order n) ∙ ap length are ∙ length-map R rowKey
 
   rows-are : rowsIn arena starts order n ≡ R
   rows-are = ap (map keyRow) are ∙ key-row R

@@ -11,13 +11,14 @@ use lib.Seq.{take-all}
 use Rattle.words.specs.Lists.{upTo}
 use Rattle.words.specs.Words.{Word}
 use Rattle.words.specs.Calls.{Room, Appended}
-use Rattle.words.proofs.Lists.{each-append, length-upTo}
+use Rattle.words.proofs.Lists.{each-append}
 use Rattle.words.proofs.Puts.{appended-none, appended-whole, appended-next}
 use Rattle.meaning.specs.Table.{Row, rowKey}
 use Rattle.meaning.specs.Runs.{said}
 use Rattle.joining.specs.Laid.{littleEndian, entryBytes, rowBytes, rowsBytes}
 use Rattle.joining.proofs.Laid.{rows-length, rows-append}
 use Rattle.shelf.specs.Shelved.{wordAt, wordsOf}
+use Rattle.shelf.proofs.Lists.{words-count}
 use Rattle.laying.specs.Written.{keyRow, rowsIn, Key, Keys}
 
 -- the row of a row's key
@@ -44,7 +45,7 @@ module _ (arena starts order : List ℕ) where
   rows n = rowsIn arena starts order n
 
   pub rows-count : (n : ℕ) → length (rows n) ≡ n
-  rows-count n = length-map (wordsOf arena starts order n) keyRow ∙ length-map (upTo n) word ∙ length-upTo n
+  rows-count n = length-map (wordsOf arena starts order n) keyRow ∙ words-count arena starts order n
 
   -- one more
   rows-more : (i : ℕ) → rows (suc i) ≡ rows i ++ keyRow (word i) ∷ []

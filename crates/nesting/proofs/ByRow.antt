@@ -35,7 +35,7 @@ module _ (file : List ℕ) where
 
 -- their words are short
 pub word-short : {a b : List ℕ} → Hops a b → (i : ℕ) {w : Word} → w ≡ wordOf a i → length w ≤ 255
-word-short {a} h i e = rw e (simp length-take (let n = getD-byte a (h .bytes) (rowStart i + 6) in omega arith))
+word-short {a} h i e = rw e (simp length-take (let n = getD-byte a (h .first-bytes) (rowStart i + 6) in omega arith))
 
 -- few are open where nothing was read, and after the word of a row
 pub none-few : Few (Open 0)

@@ -15,8 +15,9 @@ use Rattle.nesting.specs.declared.Level.the-variants.{Broken, Open}
 -- two tables that `check` took, the first hop's and the second's
 pub record Hops (a b : List ℕ) : Type 0 where
   pub first : Good edition a
-  pub bytes : Bytes a
+  pub first-bytes : Bytes a
   pub second : Good edition b
+  pub second-bytes : Bytes b
 
 -- how many calls are open; none where a return closed nothing, or for a symbol of class 0
 abbrev pub levelOf : Level → Option ℕ

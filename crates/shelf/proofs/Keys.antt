@@ -1,13 +1,13 @@
 -- Things kept by a key, as the words of a shelf: their order and their rank, and that those which outgrow a shelf are
 -- too many. Assumes nothing.
-use mathlib.Core.Path.{_≡_, refl, sym, _∙_, ap}
+use mathlib.Core.Path.{_≡_, refl, _∙_, ap}
 use mathlib.Core.Bool.{cond}
 use mathlib.Core.Logic.{_⊎_, inl, inr}
 use mathlib.Core.List.{List, [], _∷_, map, List·Memᴰ·head, List·Memᴰ·tail}
-use Prim.Native.Nat.{ℕ, suc, _+_, _*_, _<_, _≤_}
+use Prim.Native.Nat.{ℕ, suc, _*_, _<_, _≤_}
 use native.Mathlib.Nat.{mul-suc, mul-le-mul-left}
 use native.Mathlib.Omega.{arith}
-use lib.ListN.{length, length-append, length-map}
+use lib.ListN.{length}
 use Rattle.words.specs.Lists.{_among_}
 use Rattle.words.specs.Words.{Word}
 use Rattle.words.specs.Order.{Side, lower, same, upper, side, sameWord, putBy, put, arranged, rank}

@@ -4,3 +4,4 @@ pub mod Turns
 pub mod Rooms
 pub mod Laws
 pub mod Keys
+pub mod Told

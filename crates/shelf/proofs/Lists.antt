@@ -9,16 +9,16 @@ use mathlib.Core.List.{List·Memᴰ·eq-of-singleton}
 use Prim.Native.Nat.{ℕ, zero, suc, _+_, _<_, _≤_}
 use native.Mathlib.Omega.{arith}
 use lib.Dec.{eqb, ltb}
-use lib.ListN.{length, getD, take, drop}
-use Rattle.words.specs.Lists.{_among_, upTo, Distinct}
+use lib.ListN.{length, take, drop, length-map}
+use Rattle.words.specs.Lists.{_among_, upTo}
 use Rattle.words.specs.Words.{Word}
 use Rattle.words.specs.Order.{Less, Side, lower, same, upper, side, sameWord, Rises, putBy, put, rank}
-use Rattle.words.proofs.Lists.{map-same, upTo-out}
+use Rattle.words.proofs.Lists.{map-same, upTo-out, length-upTo}
 use Rattle.words.proofs.Order.{less-self, less-trans, side-lower, side-same, less-side, same-in, same-out}
-use Rattle.words.proofs.Order.{rises-same, rises-distinct}
+use Rattle.words.proofs.Order.{rises-same}
 use Rattle.words.proofs.Arranged.{put-old, put-out, put-key, put-rises, arranged-in, arranged-out, arranged-is}
 use Rattle.words.proofs.Arranged.{arranged-rises}
-use Rattle.shelf.specs.Shelved.{kept, total}
+use Rattle.shelf.specs.Shelved.{wordAt, wordsOf, kept, total}
 
 -- two words compared by parts: the bytes of the first part decide, then the rest
 
@@ -118,7 +118,7 @@ module _ (w : Word) where
           put-old (λ (v : Word). v) w z (kept made) (arranged-in (λ (v : Word). v) (λ x y e. e) z made m)
       fro z (inr m) = Memᴰ·cast (List·Memᴰ·eq-of-singleton m) (add-in (kept made))
 
--- what is kept are the words put, it rises, and has no two the same
+-- what is kept are the words put, and it rises
 
 module _ (made : List Word) where
   pub kept-exact : (z : Word) → (z among kept made) ↔ (z among made)
@@ -128,10 +128,10 @@ module _ (made : List Word) where
   pub kept-rises : Rises (λ (v : Word). v) (kept made)
   kept-rises = arranged-rises (λ (v : Word). v) made
 
-  pub kept-distinct : Distinct (kept made)
-  kept-distinct = rises-distinct (λ (v : Word). v) (kept made) kept-rises
-
 -- words listed by place
+
+pub words-count : (arena starts order : List ℕ) (n : ℕ) → length (wordsOf arena starts order n) ≡ n
+words-count arena starts order n = length-map (upTo n) (wordAt arena starts order) ∙ length-upTo n
 
 map-front : {A : Type 0} (f : ℕ → A) (n : ℕ) → map f (upTo (suc n)) ≡ f 0 ∷ map (λ i. f (suc i)) (upTo n)
 map-front f zero = refl
@@ -139,11 +139,6 @@ map-front {A} f (suc n) =
     map-append f (upTo (suc n)) (suc n ∷ [])
     ∙ ap (λ (l : List A). l ++ f (suc n) ∷ []) (map-front f n)
     ∙ ap (λ (l : List A). f 0 ∷ l) (sym (map-append (λ i. f (suc i)) (upTo n) (n ∷ [])))
-
-pub getD-listed : (f : ℕ → Word) (n i : ℕ) → i < n → getD (map f (upTo n)) i [] ≡ f i
-getD-listed f zero i l = absurd (omega arith)
-getD-listed f (suc n) zero l = rw (map-front f n)
-getD-listed f (suc n) (suc i) l = rw (map-front f n) (getD-listed (λ i. f (suc i)) n i (omega arith))
 
 module _ (w : Word) where
   -- it comes at a place

@@ -8,17 +8,17 @@ use native.Mathlib.Nat.{eq-or-lt-of-le, sub-zero}
 use native.Mathlib.Numerals.{add-one}
 use native.Mathlib.Omega.{arith}
 use borrow.Author.Count.{below-more}
-use lib.ListN.{length, take, drop, set, length-set, length-append, length-map}
+use lib.ListN.{length, take, drop, set, length-set, length-append}
 use lib.Seq.{slice, take-take, take-append-le, drop-at, length-take-le, take-length, take-nil}
 use lib.Seq.{paste, take-paste, length-paste, getD-set-same, getD-set-other}
 use Rattle.words.specs.Lists.{_among_, upTo}
 use Rattle.words.specs.Words.{Word}
 use Rattle.words.specs.Order.{Less, Side, lower, same, upper, side, Rises}
-use Rattle.words.proofs.Lists.{upTo-in, upTo-out, length-upTo, below-or}
+use Rattle.words.proofs.Lists.{upTo-in, upTo-out, below-or}
 use Rattle.words.proofs.Order.{less-self, side-lower, side-same, side-upper}
 use Rattle.shelf.specs.Shelved.{shelfCap, shelfRoom, startOf, slotOf, wordIn, wordAt, wordsOf, kept, total}
 use Rattle.shelf.specs.Shelved.{Held, Place, Stored, Inserted}
-use Rattle.shelf.proofs.Lists.{add, add-there, add-new, add-between, kept-more, kept-rises}
+use Rattle.shelf.proofs.Lists.{add, add-there, add-new, add-between, kept-more, kept-rises, words-count}
 use Rattle.shelf.proofs.Turns.{words-rise}
 
 -- a part by its two ends, as the code takes it
@@ -115,6 +115,11 @@ module _ {arena starts arena′ starts′ : List ℕ} {count used end : ℕ} {w 
         ∙ ap (λ (i : ℕ). slice (startOf starts k) i arena′) (end-stays k l)
         ∙ ap (drop (startOf starts k)) (bytes-stay (startOf starts (k + 1)) le)
 
+-- how many words stand
+pub held-count : {made : List Word} {arena starts order : List ℕ} {count used : ℕ}
+    → Held made arena starts order count used → count ≡ length (kept made)
+held-count {arena = arena} {starts} {order} {count} h = sym (words-count arena starts order count) ∙ ap length (h .are)
+
 -- where the slot at a place comes from, after one was inserted
 data Came (order : List ℕ) (count at : ℕ) (order′ : List ℕ) (j : ℕ) : Type 0 where
   fresh : slotOf order′ j ≡ count → Came order count at order′ j
@@ -186,8 +191,7 @@ module _ {made : List Word} {arena starts order : List ℕ} {count used : ℕ}
 
     pub more-words : length (kept (made ++ w ∷ [])) ≡ count + 1
     more-words =
-        let n : length (kept made) ≡ count =
-        ap length (sym (held .are)) ∙ length-map (upTo count) word ∙ length-upTo count in
+        let n = held-count held in
         ap length (kept-more w made) ∙ add-new w (kept made) not-there .0 ∙ omega arith
 
     pub more-bytes : total (kept (made ++ w ∷ [])) ≡ used + length w

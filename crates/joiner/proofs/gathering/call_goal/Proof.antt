@@ -1,5 +1,5 @@
 -- `joiner::gathering::call_goal` meets its contract. Assumes nothing.
-use mathlib.Core.Path.{_≡_, _∙_, ap}
+use mathlib.Core.Path.{_∙_, ap}
 use Prim.Native.Nat.{ℕ, _+_}
 use native.Mathlib.Omega.{arith}
 use Rattle.words.proofs.Lists.{getD-byte}
@@ -17,7 +17,7 @@ row-marker-requires c κs = search needs
 cast-marker : tie.Need-cast-marker
 cast-marker c =
     let start = c .before .before .before in
-    let small = getD-byte _ (start .pre .small .hops .bytes) (rowStart (start .args .x) + 3) in
+    let small = getD-byte _ (start .pre .small .hops .first-bytes) (rowStart (start .args .x) + 3) in
     omega (arith, c .row-marker .ensures)
 
 enum-told : tie.Need-enum-told
@@ -32,7 +32,7 @@ row-symbol-requires c κs = search needs
 cast-symbol : tie.Need-cast-symbol
 cast-symbol c =
     let start = c .before .before .before .before .before .before in
-    let small = getD-byte _ (start .pre .small .hops .bytes) (rowStart (start .args .x)) in
+    let small = getD-byte _ (start .pre .small .hops .first-bytes) (rowStart (start .args .x)) in
     omega (arith, c .row-symbol .ensures)
 
 row-from-requires : tie.Need-row-from-requires

@@ -1,5 +1,5 @@
 -- `joiner::gathering::close_goal` meets its contract. Assumes nothing.
-use mathlib.Core.Path.{_≡_, _∙_, ap}
+use mathlib.Core.Path.{_∙_, ap}
 use Prim.Native.Nat.{ℕ}
 use native.Mathlib.Omega.{arith}
 use Rattle.words.proofs.Lists.{getD-byte}
@@ -17,7 +17,7 @@ row-symbol-requires c κs = search needs
 cast-symbol : tie.Need-cast-symbol
 cast-symbol c =
     let start = c .before .before .before in
-    let small = getD-byte _ (start .pre .0 .small .hops .bytes) (rowStart (start .args .x)) in
+    let small = getD-byte _ (start .pre .0 .small .hops .first-bytes) (rowStart (start .args .x)) in
     omega (arith, c .row-symbol .ensures)
 
 row-from-requires : tie.Need-row-from-requires

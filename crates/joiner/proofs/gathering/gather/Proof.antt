@@ -1,5 +1,5 @@
 -- `joiner::gathering::gather` meets its contract. Assumes nothing.
-use mathlib.Core.Path.{_≡_, refl}
+use mathlib.Core.Path.{refl}
 use mathlib.Core.List.{[]}
 use Prim.Native.Nat.{_-_, _≤_}
 use native.Mathlib.Omega.{arith}
@@ -11,11 +11,13 @@ use Rattle.joiner.proofs.gathering.gather.Statement.{statement}
 use Rattle.joiner.proofs.gathering.gather.Tie as tie
 
 abbrev Inv-loop : tie.InvT-loop
-Inv-loop first second wanted stack₀ out₀ keys edges turns marks arena₀ starts₀ order₀ n made₀ x₀ stack out arena starts order made x =
+Inv-loop first second wanted stack₀ out₀ keys edges turns marks arena₀ starts₀ order₀ n made₀ x₀ stack out arena
+    starts order made x =
     (x ≤ n) × Passing (givenBy wanted first second) arena₀ starts₀ order₀ made₀ x arena starts order made
 
 abbrev μ-loop : tie.MeasureT-loop
-μ-loop first second wanted stack₀ out₀ keys edges turns marks arena₀ starts₀ order₀ n made₀ x₀ stack out arena starts order made x =
+μ-loop first second wanted stack₀ out₀ keys edges turns marks arena₀ starts₀ order₀ n made₀ x₀ stack out arena starts
+    order made x =
     n - x
 
 row-count-requires : tie.Need-row-count-requires Inv-loop μ-loop
@@ -53,8 +55,8 @@ returns c =
     let at-loop = c .before in
     let begun = at-loop .before in
     let a = begun .before .before .before .before .args in
-    passing-end (at-loop .loop .inv .1) (rowCount (a .first .now)) (omega (arith, begun .before .row-count .ensures)) refl
-    [] (begun .start .ensures _ _ _)
+    passing-end (at-loop .loop .inv .1) (rowCount (a .first .now))
+    (omega (arith, begun .before .row-count .ensures)) refl [] (begun .start .ensures _ _ _)
 
 pub gather-spec : {M : Type 1} → statement M
 gather-spec =

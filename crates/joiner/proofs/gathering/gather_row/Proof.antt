@@ -1,5 +1,4 @@
 -- `joiner::gathering::gather_row` meets its contract. Assumes nothing.
-use mathlib.Core.Path.{_≡_, _∙_}
 use Prim.Native.Nat.{_-_, _≤_}
 use native.Mathlib.Omega.{arith}
 use Rattle.table.specs.File.{tableOf}
@@ -11,11 +10,13 @@ use Rattle.joiner.proofs.gathering.gather_row.Statement.{statement}
 use Rattle.joiner.proofs.gathering.gather_row.Tie as tie
 
 abbrev Inv-loop : tie.InvT-loop
-Inv-loop first second wanted x stack₀ out₀ keys edges turns marks arena₀ starts₀ order₀ n made₀ q₀ stack out arena starts order made q =
+Inv-loop first second wanted x stack₀ out₀ keys edges turns marks arena₀ starts₀ order₀ n made₀ q₀ stack out arena
+    starts order made q =
     (q ≤ n) × Passing (givenAt wanted first second x) arena₀ starts₀ order₀ made₀ q arena starts order made
 
 abbrev μ-loop : tie.MeasureT-loop
-μ-loop first second wanted x stack₀ out₀ keys edges turns marks arena₀ starts₀ order₀ n made₀ q₀ stack out arena starts order made q =
+μ-loop first second wanted x stack₀ out₀ keys edges turns marks arena₀ starts₀ order₀ n made₀ q₀ stack out arena
+    starts order made q =
     n - q
 
 states-requires : tie.Need-states-requires Inv-loop μ-loop
@@ -52,7 +53,8 @@ returns : tie.Need-returns Inv-loop μ-loop
 returns c =
     let at-loop = c .before in
     let a = at-loop .before .before .before .before .args in
-    passing-end (at-loop .loop .inv .1) (tableOf (a .second .now) .states) (omega (arith, at-loop .before .states .ensures))
+    passing-end (at-loop .loop .inv .1) (tableOf (a .second .now) .states)
+    (omega (arith, at-loop .before .states .ensures))
     (by-states (a .wanted) (a .first .now) (a .second .now) (a .x))
 
 pub gather-row-spec : {M : Type 1} → statement M

@@ -1,5 +1,5 @@
 -- `joiner::gathering::read_row` meets its contract. Assumes nothing.
-use mathlib.Core.Path.{_≡_, ap}
+use mathlib.Core.Path.{ap}
 use mathlib.Core.List.{[], reverse}
 use native.Mathlib.Omega.{arith}
 use lib.ListN.{length, take}
@@ -42,10 +42,9 @@ returns c =
     let read = c .before .before .before .before .before .before in
     let a = read .before .before .before .args in
     let marks = wordsOf (a .keys .now) (a .edges .now) (a .turns .now) (a .marks) in
+    let stack = reverse (take (a .height) (a .stack .now)) in
     gathers-as (c .read .ensures .0)
-    (ap
-    (λ (w : Word). findings (a .second .now) marks (a .goal) w (config (a .q) (reverse (take (a .height) (a .stack .now))) []))
-    (read .row-word .ensures))
+    (ap (λ (w : Word). findings (a .second .now) marks (a .goal) w (config (a .q) stack [])) (read .row-word .ensures))
 
 pub read-row-spec : {M : Type 1} → statement M
 read-row-spec = tie.close (tie.spec row-word-requires read-requires returns)

@@ -1,9 +1,8 @@
 -- `joiner::gathering::return_row` meets its contract. Assumes nothing.
-use mathlib.Core.Path.{_≡_, sym, _∙_, ap}
-use mathlib.Core.List.{List, reverse}
-use Prim.Native.Nat.{ℕ, _+_, _-_, _<_, _≤_}
+use mathlib.Core.Path.{_≡_, _∙_, ap}
+use Prim.Native.Nat.{_-_, _<_, _≤_}
 use native.Mathlib.Omega.{arith}
-use lib.ListN.{length, getD, take, drop, length-take, length-drop}
+use lib.ListN.{length, getD, take, drop, length-take}
 use Rattle.words.specs.Words.{Word}
 use Rattle.shelf.specs.Shelved.{wordAt}
 use Rattle.shelf.proofs.Laws.{gathers-none, gathers-as}

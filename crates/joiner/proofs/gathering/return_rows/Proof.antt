@@ -10,13 +10,15 @@ use Rattle.joiner.proofs.gathering.return_rows.Statement.{statement}
 use Rattle.joiner.proofs.gathering.return_rows.Tie as tie
 
 abbrev Inv-loop : tie.InvT-loop
-Inv-loop first second x q stack₀ out₀ keys edges turns marks arena₀ starts₀ order₀ made₀ i₀ stack out arena starts order made i =
+Inv-loop first second x q stack₀ out₀ keys edges turns marks arena₀ starts₀ order₀ made₀ i₀ stack out arena starts
+    order made i =
     (i ≤ marks)
     × Passing (λ i. givenFrom first second x q (markOf (wordAt keys edges turns i)))
     arena₀ starts₀ order₀ made₀ i arena starts order made
 
 abbrev μ-loop : tie.MeasureT-loop
-μ-loop first second x q stack₀ out₀ keys edges turns marks arena₀ starts₀ order₀ made₀ i₀ stack out arena starts order made i =
+μ-loop first second x q stack₀ out₀ keys edges turns marks arena₀ starts₀ order₀ made₀ i₀ stack out arena starts order
+    made i =
     marks - i
 
 loop-holds : tie.Need-loop-holds Inv-loop μ-loop
@@ -27,7 +29,8 @@ return-row-requires c κs =
     let in-loop = c .before .before .before .before .before in
     let at-loop = in-loop .before in
     let pre = at-loop .before .before .before .pre in
-    ((pre .0 .0, omega (arith, in-loop .loop-test .taken)), (pre .1 .0, passing-ready (at-loop .loop .inv .1) (pre .1 .1)))
+    let ready = passing-ready (at-loop .loop .inv .1) (pre .1 .1) in
+    ((pre .0 .0, omega (arith, in-loop .loop-test .taken)), (pre .1 .0, ready))
 
 add-i : tie.Need-add-i Inv-loop μ-loop
 add-i c = search needs

@@ -22,7 +22,7 @@ nests-requires c κs = search needs
 returns : tie.Need-returns
 returns c =
     let asked = c .before in
-    let h = asked .before .before .before .before .pre .hops in
+    let h = asked .before .before .before .before .pre in
     joins-not-nested _ _ _ (h .first) (h .second) (denied (asked .nests .ensures) (c .if1 .taken))
 
 long-words-requires : tie.Need-long-words-requires
@@ -31,7 +31,7 @@ long-words-requires c κs = search needs
 returns-2 : tie.Need-returns-2
 returns-2 c =
     let asked = c .before .before in
-    let h = asked .before .before .before .before .before .pre .hops in
+    let h = asked .before .before .before .before .before .pre in
     joins-too-large _ _ _ (h .first) (h .second) (granted (asked .before .nests .ensures) (asked .if1 .left))
     (inl (c .before .long-words .ensures .1 (c .if2 .taken)))
 
@@ -50,7 +50,7 @@ returns-3 : tie.Need-returns-3
 returns-3 c =
     let tested = c .before .before .before in
     let asked = tested .before .before in
-    let h = asked .before .before .before .before .before .pre .hops in
+    let h = asked .before .before .before .before .before .pre in
     joins-too-large _ _ _ (h .first) (h .second) (granted (asked .before .nests .ensures) (asked .if1 .left))
     (inr (inl (rw (c .before .before .states .ensures, c .before .states2 .ensures) at (c .if3 .taken))))
 
@@ -60,15 +60,14 @@ on-nested-requires c κs =
     let tested = counted .before .before .before in
     let asked = tested .before .before in
     let start = asked .before .before .before .before .before in
-    let b = start .pre in
+    let states-are = product (counted .before .before .states .ensures) (counted .before .states2 .ensures) in
     record {
       small = record {
-        hops = b .hops;
-        bytes = b .bytes;
-        words = not-long 16 (tableOf (start .args .first .now)) (λ l. false≢true (sym (tested .if2 .left) ∙ tested .before .long-words .ensures .0 l));
-        states =
-            omega
-            (arith, product (counted .before .before .states .ensures) (counted .before .states2 .ensures), counted .if3 .left);
+        hops = start .pre;
+        words =
+            not-long 16 (tableOf (start .args .first .now))
+            (λ l. false≢true (sym (tested .if2 .left) ∙ tested .before .long-words .ensures .0 l));
+        states = omega (arith, states-are, counted .if3 .left);
       };
       nest = granted (asked .before .nests .ensures) (asked .if1 .left);
     }

@@ -24,12 +24,10 @@ on-both-requires c κs =
     let start = checked .before .before .before .before in
     let bytes = checked .before .before .shared-slice-known2 in
     record {
-      hops = record {
-        first = start .pre .0;
-        bytes = start .pre .1;
-        second = checked .check .ensures .good .0 (ap numberOf (told .enum-told2 .given .1));
-      };
-      bytes = byte-getD _ (λ k. omega (arith, bytes .given k));
+      first = start .pre .0;
+      first-bytes = start .pre .1;
+      second = checked .check .ensures .good .0 (ap numberOf (told .enum-told2 .given .1));
+      second-bytes = byte-getD _ (λ k. omega (arith, bytes .given k));
     }
 
 returns : tie.Need-returns

@@ -29,7 +29,8 @@ on-rows-requires c κs =
     let tested = gathered .before .before .before .before .before .before in
     let start = tested .before .before .before .before in
     let m = start .pre in
-    nested-rowed (m .nested) (start .args .out .now) (m .held) (omega (arith, tested .if1 .left)) (gathered .rows .ensures .made _ _ (told .count .given .1))
+    nested-rowed (m .nested) (start .args .out .now) (m .held) (omega (arith, tested .if1 .left))
+    (gathered .rows .ensures .made _ _ (told .count .given .1))
 
 returns-2 : tie.Need-returns-2
 returns-2 c =

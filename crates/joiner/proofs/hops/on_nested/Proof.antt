@@ -17,13 +17,15 @@ on-marks-requires : tie.Need-on-marks-requires
 on-marks-requires c κs =
     let told = c .before .before .before .before .before .before .before in
     let gathered = told .before .before in
-    let m = gathered .before .before .before .before .before .before .before .before .before .before .before .before .pre in
+    let lent = gathered .before .before .before .before .before .before in
+    let m = lent .before .before .before .before .before .before .pre in
     record { nested = m; held = gathered .marks .ensures .made _ _ (told .count .given .1) }
 
 returns : tie.Need-returns
 returns c =
     let gathered = c .before .before in
-    let m = gathered .before .before .before .before .before .before .before .before .before .before .before .before .pre in
+    let lent = gathered .before .before .before .before .before .before in
+    let m = lent .before .before .before .before .before .before .pre in
     nested-marks-full m _ (gathered .marks .ensures .full (c .enum-told .given .1))
 
 same-length : tie.Need-same-length

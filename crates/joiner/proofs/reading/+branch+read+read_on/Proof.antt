@@ -1,5 +1,6 @@
--- The cycle of calls of `joiner::reading::branch` and `joiner::reading::read`: a branch reads what is left of the word,
--- and a reading has a branch for each row of the word's first byte, so that the word gets shorter. Assumes nothing.
+-- The cycle of calls of `branch`, `read` and `read_on` (`joiner::reading`): a branch reads what is left of the word, and
+-- a reading that goes on has a branch for each row of the word's first byte, so that the word gets shorter. Assumes
+-- nothing.
 use native.Mathlib.Omega.{arith}
 use mathlib.Core.Path.{_≡_, sym, ap}
 use mathlib.Core.List.{List, [], _∷_}
@@ -33,25 +34,31 @@ use Rattle.table.proofs.row_symbol.Reads as row-symbol-reads
 use Rattle.table.proofs.row_to.Reads as row-to-reads
 use Rattle.joiner.proofs.reading.branch.Reads as branch
 use Rattle.joiner.proofs.reading.branch.Kinds as branch-kinds
-use Rattle.joiner.proofs.reading.+branch+read.Lts-branch as branch-lts
+use Rattle.joiner.proofs.reading.+branch+read+read_on.Lts-branch as branch-lts
 use Rattle.joiner.proofs.reading.read.Reads as read
 use Rattle.joiner.proofs.reading.read.Kinds as read-kinds
-use Rattle.joiner.proofs.reading.+branch+read.Lts-read as read-lts
+use Rattle.joiner.proofs.reading.+branch+read+read_on.Lts-read as read-lts
+use Rattle.joiner.proofs.reading.read_on.Reads as on
+use Rattle.joiner.proofs.reading.read_on.Kinds as on-kinds
+use Rattle.joiner.proofs.reading.+branch+read+read_on.Lts-read_on as on-lts
 use Rattle.joiner.proofs.reading.append.Reads as append-reads
 use Rattle.joiner.proofs.reading.exchange.Reads as exchange-reads
 use Rattle.joiner.proofs.reading.fits.Reads as fits-reads
 use Rattle.joiner.proofs.reading.found.Reads as found-reads
 use Rattle.joiner.proofs.reading.height_after.Reads as height-after-reads
 use Rattle.shelf.proofs.full.Reads as full-reads
-use Rattle.joiner.proofs.reading.+branch+read.{statement}
-use Rattle.joiner.proofs.reading.+branch+read.Tie.{close}
+use Rattle.joiner.proofs.reading.+branch+read+read_on.{statement}
+use Rattle.joiner.proofs.reading.+branch+read+read_on.Tie.{close}
 
--- what is left of the word, twice: a branch stands between two readings
+-- what is left of the word, three times: a reading, its going on and a branch come one after the other
 abbrev μ-branch : Measures 10 branch-kinds.ps ℕ
-μ-branch κs a = 2 * length (a .1 .1 .1 .0 .now) + 1
+μ-branch κs a = 3 * length (a .1 .1 .1 .0 .now) + 3
 
 abbrev μ-read : Measures 10 read-kinds.ps ℕ
-μ-read κs a = 2 * length (a .1 .0 .now)
+μ-read κs a = 3 * length (a .1 .0 .now) + 2
+
+abbrev μ-read-on : Measures 10 on-kinds.ps ℕ
+μ-read-on κs a = 3 * length (a .1 .0 .now) + 1
 
 -- what each is given at the measure t, and what a call of it asks below t
 abbrev branch-at : ℕ → In 10 branch-kinds.ps
@@ -65,6 +72,12 @@ read-at t = and 10 read-kinds.ps (is 10 read-kinds.ps μ-read t) read.Pre
 
 abbrev read-below : ℕ → In 10 read-kinds.ps
 read-below t = and 10 read-kinds.ps (falls 10 read-kinds.ps _<_ μ-read t) read.Pre
+
+abbrev on-at : ℕ → In 10 on-kinds.ps
+on-at t = and 10 on-kinds.ps (is 10 on-kinds.ps μ-read-on t) on.Pre
+
+abbrev on-below : ℕ → In 10 on-kinds.ps
+on-below t = and 10 on-kinds.ps (falls 10 on-kinds.ps _<_ μ-read-on t) on.Pre
 
 -- what the callees ask and say, at the measure t
 abbrev branch-calls : ℕ → branch-lts.Claims
@@ -88,9 +101,10 @@ branch-calls t = (
 )
 
 abbrev read-calls : ℕ → read-lts.Claims
-read-calls t = (
-  found-reads.Asked,
-  found-reads.Learnt,
+read-calls t = (found-reads.Asked, found-reads.Learnt, on-below t, on.Post)
+
+abbrev on-calls : ℕ → on-lts.Claims
+on-calls t = (
   class-of-reads.Asked,
   class-of-reads.Learnt,
   row-count-reads.Asked,
@@ -105,14 +119,14 @@ read-calls t = (
   branch.Post,
 )
 
-abbrev Inv-loop : read-lts.InvT-loop
+abbrev Inv-loop : on-lts.InvT-loop
 Inv-loop second word state stack₀ height out₀ long goal keys edges turns marks arena₀ starts₀ order₀ symbol rest class n
     made₀ r₀ stack out arena starts order made r =
     (r₀ ≤ r) × (r ≤ n) × Untouched stack₀ out₀ long stack out
     × Passing (byRow second (wordsOf keys edges turns marks) goal symbol rest (configOf state stack₀ height out₀ long))
     arena₀ starts₀ order₀ made₀ r arena starts order made
 
-abbrev μ-loop : read-lts.MeasureT-loop
+abbrev μ-loop : on-lts.MeasureT-loop
 μ-loop second word state stack₀ height out₀ long goal keys edges turns marks arena₀ starts₀ order₀ symbol rest class n
     made₀ r₀ stack out arena starts order made r =
     n - r
@@ -248,10 +262,9 @@ branch-returns-3 t c =
           (read .read .ensures .1) (c .exchange2 .ensures),
     )
 
--- the arguments of a reading, the marks, where it starts from, and the word by its first byte
-module _ (t : ℕ)
-    (c : read-lts.After-shared-slice-known2 (read-calls t) (read-at t) read.Post Inv-loop μ-loop) where
-  abbrev read-start : read-lts.Start (read-calls t) (read-at t) read.Post Inv-loop μ-loop
+-- the arguments of a reading, the marks, and where it starts from
+module _ (t : ℕ) (c : read-lts.After-shared-slice-known2 (read-calls t) (read-at t) read.Post) where
+  abbrev read-start : read-lts.Start (read-calls t) (read-at t) read.Post
   read-start = c .before .before
 
   abbrev read-marks : List Word
@@ -264,45 +277,19 @@ module _ (t : ℕ)
       let a = read-start .args in
       configOf (a .state) (a .stack .now) (a .height) (a .out .now) (a .long)
 
-  abbrev read-symbol : ℕ
-  read-symbol = getD (read-start .args .word .now) 0 0
-
-  abbrev read-rest : Word
-  read-rest = let w = read-start .args .word .now in take (length w - 1) (drop 1 w)
-
--- in the loop the word has a first byte; a row there, and one that has the symbol
-module _ (t : ℕ) (c : read-lts.At-loop (read-calls t) (read-at t) read.Post Inv-loop μ-loop) where
-  abbrev loop-known : read-lts.After-shared-slice-known2 (read-calls t) (read-at t) read.Post Inv-loop μ-loop
-  loop-known = c .before .before .before .before .before .before .before
-
-  loop-word : read-start t loop-known .args .word .now ≡ read-symbol t loop-known ∷ read-rest t loop-known
-  loop-word =
-      word-first (read-start t loop-known .args .word .now)
-      (omega (arith, c .before .before .before .before .before .before .if1 .left))
-
-read-within : (t : ℕ) (c : read-lts.In-loop (read-calls t) (read-at t) read.Post Inv-loop μ-loop)
-    → c .before .loop .r < rowCount (read-start t (loop-known t (c .before)) .args .second .now)
-read-within t c = omega (arith, c .before .before .before .row-count .ensures)
-
-read-has : (t : ℕ) (c : read-lts.Else2 (read-calls t) (read-at t) read.Post Inv-loop μ-loop)
-    → let at-loop = c .before .before .before .before in
-    let known = loop-known t at-loop in
-    rowAt (read-start t known .args .second .now) (at-loop .loop .r) .symbol ≡ read-symbol t known
-read-has t c = omega (arith, c .before .wide .ensures, c .before .before .row-symbol .ensures)
-
 read-slice-aggregate-found : (t : ℕ)
-    → read-lts.Need-slice-aggregate-found (read-calls t) (read-at t) read.Post Inv-loop μ-loop
+    → read-lts.Need-slice-aggregate-found (read-calls t) (read-at t) read.Post
 read-slice-aggregate-found t c =
     let start = read-start t (c .before .before .before .before .before .before) in
     sym (length-take-le (start .args .height) (start .args .stack .now) (omega (arith, start .pre .1 .0 .high)))
 
 read-slice-aggregate-found-2 : (t : ℕ)
-    → read-lts.Need-slice-aggregate-found-2 (read-calls t) (read-at t) read.Post Inv-loop μ-loop
+    → read-lts.Need-slice-aggregate-found-2 (read-calls t) (read-at t) read.Post
 read-slice-aggregate-found-2 t c =
     let start = read-start t (c .before .before .before .before .before .before .before) in
     sym (length-take-le (start .args .long) (start .args .out .now) (omega (arith, start .pre .1 .0 .room)))
 
-read-found-requires : (t : ℕ) → read-lts.Need-found-requires (read-calls t) (read-at t) read.Post Inv-loop μ-loop
+read-found-requires : (t : ℕ) → read-lts.Need-found-requires (read-calls t) (read-at t) read.Post
 read-found-requires t c κs =
     let end = c .before .before .before .before .before .before .before .before .before in
     let known = end .before in
@@ -317,7 +304,7 @@ read-found-requires t c κs =
       ),
     )
 
-read-returns : (t : ℕ) → read-lts.Need-returns (read-calls t) (read-at t) read.Post Inv-loop μ-loop
+read-returns : (t : ℕ) → read-lts.Need-returns (read-calls t) (read-at t) read.Post
 read-returns t c =
     let end = c .before .before .before .before .before .before .before .before .before .before in
     let known = end .before in
@@ -328,141 +315,192 @@ read-returns t c =
       untouched-self,
     )
 
-read-shared-slice-read-symbol : (t : ℕ)
-    → read-lts.Need-shared-slice-read-symbol (read-calls t) (read-at t) read.Post Inv-loop μ-loop
-read-shared-slice-read-symbol t c = omega (arith, c .before .if1 .left)
+read-read-on-requires : (t : ℕ) → read-lts.Need-read-on-requires (read-calls t) (read-at t) read.Post
+read-read-on-requires t c κs =
+    let else = c .before .before .before .before .before in
+    let start = read-start t (else .before) in
+    let pre = start .pre .1 in
+    (omega (arith, start .pre .0), ((pre .0, omega (arith, else .if1 .left)), pre .1))
 
-read-sub-rest : (t : ℕ) → read-lts.Need-sub-rest (read-calls t) (read-at t) read.Post Inv-loop μ-loop
-read-sub-rest t c = omega (arith, c .before .if1 .left)
+read-returns-2 : (t : ℕ) → read-lts.Need-returns-2 (read-calls t) (read-at t) read.Post
+read-returns-2 t c = c .read-on .ensures
 
-read-part-rest-start : (t : ℕ) → read-lts.Need-part-rest-start (read-calls t) (read-at t) read.Post Inv-loop μ-loop
-read-part-rest-start t c = omega (arith, c .before .if1 .left)
+-- the same of one that goes on, and the word by its first byte
+module _ (t : ℕ)
+    (c : on-lts.After-shared-slice-known2 (on-calls t) (on-at t) on.Post Inv-loop μ-loop) where
+  abbrev on-start : on-lts.Start (on-calls t) (on-at t) on.Post Inv-loop μ-loop
+  on-start = c .before .before
 
-read-part-rest-end : (t : ℕ) → read-lts.Need-part-rest-end (read-calls t) (read-at t) read.Post Inv-loop μ-loop
-read-part-rest-end t c = omega arith
+  abbrev on-marks : List Word
+  on-marks =
+      let a = on-start .args in
+      wordsOf (a .keys .now) (a .edges .now) (a .turns .now) (a .marks)
 
-read-class-of-requires : (t : ℕ) → read-lts.Need-class-of-requires (read-calls t) (read-at t) read.Post Inv-loop μ-loop
-read-class-of-requires t c κs = read-start t (c .before .before .before) .pre .1 .0 .good
+  abbrev on-from : Config
+  on-from =
+      let a = on-start .args in
+      configOf (a .state) (a .stack .now) (a .height) (a .out .now) (a .long)
 
-read-row-count-requires : (t : ℕ)
-    → read-lts.Need-row-count-requires (read-calls t) (read-at t) read.Post Inv-loop μ-loop
-read-row-count-requires t c κs = read-start t (c .before .before .before .before) .pre .1 .0 .good
+  abbrev on-symbol : ℕ
+  on-symbol = getD (on-start .args .word .now) 0 0
 
-read-first-row-requires : (t : ℕ)
-    → read-lts.Need-first-row-requires (read-calls t) (read-at t) read.Post Inv-loop μ-loop
-read-first-row-requires t c κs = read-start t (c .before .before .before .before .before) .pre .1 .0 .good
+  abbrev on-rest : Word
+  on-rest = let w = on-start .args .word .now in take (length w - 1) (drop 1 w)
 
-read-loop-holds : (t : ℕ) → read-lts.Need-loop-holds (read-calls t) (read-at t) read.Post Inv-loop μ-loop
-read-loop-holds t c =
-    let known = c .before .before .before .before .before .before in
-    let a = read-start t known .args in
+-- in the loop the word has a first byte; a row there, and one that has the symbol
+module _ (t : ℕ) (c : on-lts.At-loop (on-calls t) (on-at t) on.Post Inv-loop μ-loop) where
+  abbrev loop-known : on-lts.After-shared-slice-known2 (on-calls t) (on-at t) on.Post Inv-loop μ-loop
+  loop-known = c .before .before .before .before .before .before
+
+  loop-word : on-start t loop-known .args .word .now ≡ on-symbol t loop-known ∷ on-rest t loop-known
+  loop-word =
+      word-first (on-start t loop-known .args .word .now) (on-start t loop-known .pre .1 .0 .1)
+
+on-within : (t : ℕ) (c : on-lts.In-loop (on-calls t) (on-at t) on.Post Inv-loop μ-loop)
+    → c .before .loop .r < rowCount (on-start t (loop-known t (c .before)) .args .second .now)
+on-within t c = omega (arith, c .before .before .before .row-count .ensures)
+
+on-has : (t : ℕ) (c : on-lts.Else1 (on-calls t) (on-at t) on.Post Inv-loop μ-loop)
+    → let at-loop = c .before .before .before .before in
+    let known = loop-known t at-loop in
+    rowAt (on-start t known .args .second .now) (at-loop .loop .r) .symbol ≡ on-symbol t known
+on-has t c = omega (arith, c .before .wide .ensures, c .before .before .row-symbol .ensures)
+
+on-shared-slice-read-symbol : (t : ℕ)
+    → on-lts.Need-shared-slice-read-symbol (on-calls t) (on-at t) on.Post Inv-loop μ-loop
+on-shared-slice-read-symbol t c = omega (arith, c .before .before .before .pre .1 .0 .1)
+
+on-sub-rest : (t : ℕ) → on-lts.Need-sub-rest (on-calls t) (on-at t) on.Post Inv-loop μ-loop
+on-sub-rest t c = omega (arith, c .before .before .before .pre .1 .0 .1)
+
+on-part-rest-start : (t : ℕ) → on-lts.Need-part-rest-start (on-calls t) (on-at t) on.Post Inv-loop μ-loop
+on-part-rest-start t c = omega (arith, c .before .before .before .pre .1 .0 .1)
+
+on-part-rest-end : (t : ℕ) → on-lts.Need-part-rest-end (on-calls t) (on-at t) on.Post Inv-loop μ-loop
+on-part-rest-end t c = omega arith
+
+on-class-of-requires : (t : ℕ) → on-lts.Need-class-of-requires (on-calls t) (on-at t) on.Post Inv-loop μ-loop
+on-class-of-requires t c κs = on-start t (c .before .before) .pre .1 .0 .0 .good
+
+on-row-count-requires : (t : ℕ)
+    → on-lts.Need-row-count-requires (on-calls t) (on-at t) on.Post Inv-loop μ-loop
+on-row-count-requires t c κs = on-start t (c .before .before .before) .pre .1 .0 .0 .good
+
+on-first-row-requires : (t : ℕ)
+    → on-lts.Need-first-row-requires (on-calls t) (on-at t) on.Post Inv-loop μ-loop
+on-first-row-requires t c κs = on-start t (c .before .before .before .before) .pre .1 .0 .0 .good
+
+on-loop-holds : (t : ℕ) → on-lts.Need-loop-holds (on-calls t) (on-at t) on.Post Inv-loop μ-loop
+on-loop-holds t c =
+    let known = c .before .before .before .before .before in
+    let a = on-start t known .args in
     let first = c .first-row .ensures in (
       omega arith,
       omega (arith, first .within, c .before .row-count .ensures),
       untouched-self,
-      rows-start (a .second .now) (read-marks t known) (a .goal) (read-symbol t known) (read-rest t known)
-          (read-from t known) first,
+      rows-start (a .second .now) (on-marks t known) (a .goal) (on-symbol t known) (on-rest t known)
+          (on-from t known) first,
     )
 
-read-row-symbol-requires : (t : ℕ)
-    → read-lts.Need-row-symbol-requires (read-calls t) (read-at t) read.Post Inv-loop μ-loop
-read-row-symbol-requires t c κs =
-    (read-start t (c .before .before .before .before .before .before .before .before) .pre .1 .0 .good, read-within t c)
+on-row-symbol-requires : (t : ℕ)
+    → on-lts.Need-row-symbol-requires (on-calls t) (on-at t) on.Post Inv-loop μ-loop
+on-row-symbol-requires t c κs =
+    (on-start t (c .before .before .before .before .before .before .before) .pre .1 .0 .0 .good, on-within t c)
 
-read-wide-requires : (t : ℕ) → read-lts.Need-wide-requires (read-calls t) (read-at t) read.Post Inv-loop μ-loop
-read-wide-requires t c κs = search needs
+on-wide-requires : (t : ℕ) → on-lts.Need-wide-requires (on-calls t) (on-at t) on.Post Inv-loop μ-loop
+on-wide-requires t c κs = search needs
 
-read-returns-2 : (t : ℕ) → read-lts.Need-returns-2 (read-calls t) (read-at t) read.Post Inv-loop μ-loop
-read-returns-2 t c =
+on-returns : (t : ℕ) → on-lts.Need-returns (on-calls t) (on-at t) on.Post Inv-loop μ-loop
+on-returns t c =
     let at-loop = c .before .before .before .before in
     let known = loop-known t at-loop in
-    let start = read-start t known in
+    let start = on-start t known in
     let a = start .args in
-    let within = read-within t (c .before .before .before) in
+    let within = on-within t (c .before .before .before) in
     let first = at-loop .before .first-row .ensures in (
-      rows-end (a .second .now) (read-marks t known) (a .goal) (read-symbol t known) (read-rest t known)
-          (read-from t known) (loop-word t at-loop) (at-loop .loop .inv .3) (omega (arith, within))
+      rows-end (a .second .now) (on-marks t known) (a .goal) (on-symbol t known) (on-rest t known)
+          (on-from t known) (loop-word t at-loop) (at-loop .loop .inv .3) (omega (arith, within))
           (λ k l m e.
           omega (
             arith,
             first .onward (at-loop .loop .r) (omega arith) within,
-            symbols-up (a .second .now) (start .pre .1 .0 .good .rows) k (at-loop .loop .r) l m,
+            symbols-up (a .second .now) (start .pre .1 .0 .0 .good .rows) k (at-loop .loop .r) l m,
             c .before .wide .ensures,
             c .before .before .row-symbol .ensures,
           )),
       at-loop .loop .inv .2,
     )
 
-read-branch-requires : (t : ℕ) → read-lts.Need-branch-requires (read-calls t) (read-at t) read.Post Inv-loop μ-loop
-read-branch-requires t c κs =
+on-branch-requires : (t : ℕ) → on-lts.Need-branch-requires (on-calls t) (on-at t) on.Post Inv-loop μ-loop
+on-branch-requires t c κs =
     let else = c .before .before .before .before .before in
     let at-loop = else .before .before .before .before in
     let known = loop-known t at-loop in
-    let start = read-start t known in
+    let start = on-start t known in
     let a = start .args in
     let pre = start .pre .1 in
     let word = loop-word t at-loop in
     let long = ap length word in
-    let within = read-within t (else .before .before .before) in (
+    let within = on-within t (else .before .before .before) in (
       omega (arith, start .pre .0),
       (
         (
           record {
-            good = pre .0 .good;
-            high = omega (arith, pre .0 .high);
-            room = omega (arith, pre .0 .room);
+            good = pre .0 .0 .good;
+            high = omega (arith, pre .0 .0 .high);
+            room = omega (arith, pre .0 .0 .room);
           },
           within,
         ),
         (
           pre .1 .0,
           (
-            suited-row (a .second .now) (read-marks t known) (a .goal) (read-symbol t known) (read-rest t known)
-                (read-from t known) word (at-loop .loop .r) within (at-loop .before .before .before .class-of .ensures)
-                (read-has t else) (untouched-config (a .state) (a .height) (at-loop .loop .inv .2)) (pre .1 .1 .0),
+            suited-row (a .second .now) (on-marks t known) (a .goal) (on-symbol t known) (on-rest t known)
+                (on-from t known) word (at-loop .loop .r) within (at-loop .before .before .before .class-of .ensures)
+                (on-has t else) (untouched-config (a .state) (a .height) (at-loop .loop .inv .2)) (pre .1 .1 .0),
             passing-ready (at-loop .loop .inv .3) (pre .1 .1 .1),
           ),
         ),
       ),
     )
 
-read-add-r : (t : ℕ) → read-lts.Need-add-r (read-calls t) (read-at t) read.Post Inv-loop μ-loop
-read-add-r t c = search needs
+on-add-r : (t : ℕ) → on-lts.Need-add-r (on-calls t) (on-at t) on.Post Inv-loop μ-loop
+on-add-r t c = search needs
 
-read-loop-less : (t : ℕ) → read-lts.Need-loop-less (read-calls t) (read-at t) read.Post Inv-loop μ-loop
-read-loop-less t c = search needs
+on-loop-less : (t : ℕ) → on-lts.Need-loop-less (on-calls t) (on-at t) on.Post Inv-loop μ-loop
+on-loop-less t c = search needs
 
-read-loop-again : (t : ℕ) → read-lts.Need-loop-again (read-calls t) (read-at t) read.Post Inv-loop μ-loop
-read-loop-again t c =
+on-loop-again : (t : ℕ) → on-lts.Need-loop-again (on-calls t) (on-at t) on.Post Inv-loop μ-loop
+on-loop-again t c =
     let else = c .before .before .before .before .before .before in
     let at-loop = else .before .before .before .before in
     let known = loop-known t at-loop in
-    let a = read-start t known .args in (
+    let a = on-start t known .args in (
       omega arith,
       omega arith,
       untouched-both (at-loop .loop .inv .2) (c .branch .ensures .1),
       passing-next (at-loop .loop .inv .3)
           (gathers-as (c .branch .ensures .0)
-          (by-class (a .second .now) (read-marks t known) (a .goal) (read-symbol t known) (read-rest t known)
-          (read-from t known) (at-loop .loop .r) (at-loop .before .before .before .class-of .ensures) (read-has t else)
+          (by-class (a .second .now) (on-marks t known) (a .goal) (on-symbol t known) (on-rest t known)
+          (on-from t known) (at-loop .loop .r) (at-loop .before .before .before .class-of .ensures) (on-has t else)
           (untouched-config (a .state) (a .height) (at-loop .loop .inv .2)))),
     )
 
-read-returns-3 : (t : ℕ) → read-lts.Need-returns-3 (read-calls t) (read-at t) read.Post Inv-loop μ-loop
-read-returns-3 t c =
+on-returns-2 : (t : ℕ) → on-lts.Need-returns-2 (on-calls t) (on-at t) on.Post Inv-loop μ-loop
+on-returns-2 t c =
     let at-loop = c .before in
     let known = loop-known t at-loop in
-    let a = read-start t known .args in (
-      rows-end (a .second .now) (read-marks t known) (a .goal) (read-symbol t known) (read-rest t known)
-          (read-from t known) (loop-word t at-loop) (at-loop .loop .inv .3)
+    let a = on-start t known .args in (
+      rows-end (a .second .now) (on-marks t known) (a .goal) (on-symbol t known) (on-rest t known)
+          (on-from t known) (loop-word t at-loop) (at-loop .loop .inv .3)
           (omega (arith, at-loop .before .before .row-count .ensures))
           (λ k l m. absurd (omega (arith, at-loop .before .before .row-count .ensures))),
       at-loop .loop .inv .2,
     )
 
-pub +branch+read-spec : {M : Type 1} → statement M
-+branch+read-spec =
-    close μ-branch μ-read
+pub +branch+read+read-on-spec : {M : Type 1} → statement M
++branch+read+read-on-spec =
+    close μ-branch μ-read μ-read-on
     (λ t. branch-lts.spec (branch-calls t) (branch-at t) branch.Post
     (branch-full-requires t)
     (branch-returns t)
@@ -477,24 +515,27 @@ pub +branch+read-spec : {M : Type 1} → statement M
     (branch-read-requires t)
     (branch-exchange-requires-2 t)
     (branch-returns-3 t))
-    (λ t. read-lts.spec (read-calls t) (read-at t) read.Post Inv-loop μ-loop
+    (λ t. read-lts.spec (read-calls t) (read-at t) read.Post
     (read-slice-aggregate-found t)
     (read-slice-aggregate-found-2 t)
     (read-found-requires t)
     (read-returns t)
-    (read-shared-slice-read-symbol t)
-    (read-sub-rest t)
-    (read-part-rest-start t)
-    (read-part-rest-end t)
-    (read-class-of-requires t)
-    (read-row-count-requires t)
-    (read-first-row-requires t)
-    (read-loop-holds t)
-    (read-row-symbol-requires t)
-    (read-wide-requires t)
-    (read-returns-2 t)
-    (read-branch-requires t)
-    (read-add-r t)
-    (read-loop-less t)
-    (read-loop-again t)
-    (read-returns-3 t))
+    (read-read-on-requires t)
+    (read-returns-2 t))
+    (λ t. on-lts.spec (on-calls t) (on-at t) on.Post Inv-loop μ-loop
+    (on-shared-slice-read-symbol t)
+    (on-sub-rest t)
+    (on-part-rest-start t)
+    (on-part-rest-end t)
+    (on-class-of-requires t)
+    (on-row-count-requires t)
+    (on-first-row-requires t)
+    (on-loop-holds t)
+    (on-row-symbol-requires t)
+    (on-wide-requires t)
+    (on-returns t)
+    (on-branch-requires t)
+    (on-add-r t)
+    (on-loop-less t)
+    (on-loop-again t)
+    (on-returns-2 t))
