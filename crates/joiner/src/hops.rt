@@ -82,7 +82,7 @@ fn long_words(file: &[u8]) -> bool
     false
 }
 
-// And such tables: the joined markers are gathered.
+// And such tables: the joined markers are gathered. The rooms that the rows will need are not read for it.
 fn on_nested(first: &[u8], second: &[u8], out: &mut [u8]) -> Joining
     requires { ⌜ Nested (now first) (now second) ⌝ }
     ensures { λ r. ⌜
@@ -93,9 +93,9 @@ fn on_nested(first: &[u8], second: &[u8], out: &mut [u8]) -> Joining
     let mut keys = [0u8; ROOM];
     let mut edges = [0usize; 257];
     let mut turns = [0u8; 256];
-    let arena = [0u8; ROOM];
-    let starts = [0usize; 257];
-    let order = [0u8; 256];
+    let mut arena = [0u8; ROOM];
+    let mut starts = [0usize; 257];
+    let mut order = [0u8; 256];
     match gathering::marks(
         first,
         second,
@@ -120,6 +120,9 @@ fn on_nested(first: &[u8], second: &[u8], out: &mut [u8]) -> Joining
             &turns,
             count,
             used,
+            &mut arena,
+            &mut starts,
+            &mut order,
         ),
     }
 }
@@ -136,6 +139,9 @@ fn on_marks(
     turns: &[u8; 256],
     marks: usize,
     used: usize,
+    arena: &mut [u8; ROOM],
+    starts: &mut [usize; 257],
+    order: &mut [u8; 256],
 ) -> Joining
     requires { ⌜ Marked (now first) (now second) (now keys) (now edges) (now turns) marks used ⌝ }
     ensures { λ r. ⌜
@@ -144,9 +150,6 @@ fn on_marks(
     if 64 < marks {
         return Joining::TooLarge;
     }
-    let mut arena = [0u8; ROOM];
-    let mut starts = [0usize; 257];
-    let mut order = [0u8; 256];
     match gathering::rows(
         first,
         second,
@@ -156,9 +159,9 @@ fn on_marks(
         edges,
         turns,
         marks,
-        &mut arena,
-        &mut starts,
-        &mut order,
+        arena,
+        starts,
+        order,
     ) {
         Shelf::Full => Joining::TooLarge,
         Shelf::Made { count, used: bytes } => on_rows(
@@ -166,9 +169,9 @@ fn on_marks(
             second,
             out,
             marks,
-            &arena,
-            &starts,
-            &order,
+            arena,
+            starts,
+            order,
             count,
             bytes,
         ),

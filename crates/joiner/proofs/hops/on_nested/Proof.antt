@@ -15,7 +15,7 @@ enum-known-count c = search needs
 
 on-marks-requires : tie.Need-on-marks-requires
 on-marks-requires c κs =
-    let told = c .before .before .before .before .before .before .before in
+    let told = c .before .before .before .before .before .before .before .before .before .before in
     let gathered = told .before .before in
     let lent = gathered .before .before .before .before .before .before in
     let m = lent .before .before .before .before .before .before .pre in
