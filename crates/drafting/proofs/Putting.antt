@@ -114,11 +114,9 @@ came {order} {order′} {n} {at} into j lt = go (below-or j at) (below-or at j)
         moved (j - 1) e (omega arith) (omega arith)
         (ap (slotOf order′) e ∙ into .after (j - 1) (omega arith) (omega arith))
 
--- an entry and its place among the drafts
+-- the numbers of the drafts, which fall as they are read
 
-module _ {work order : List ℕ} {n key at : ℕ} (drafts : Drafts work order n)
-    (rise : RisesByLink (draftsOf work order n)) (place : Place work order n key at) (l : Link) (plain : Plain l)
-    (is : linkNo l ≡ key) (piece : Word) where
+module _ {work order : List ℕ} {n : ℕ} (drafts : Drafts work order n) where
   abbrev draft : ℕ → Entry
   draft i = draftIn work (slotOf order i)
 
@@ -128,164 +126,175 @@ module _ {work order : List ℕ} {n key at : ℕ} (drafts : Drafts work order n)
   number : (i : ℕ) → i < n → keyFrom work (slotStart (slotOf order i)) ≡ linkNo (draft i .link)
   number i h = key-from work (drafts .small) (slotStart (slotOf order i)) (drafts .below i h)
 
-  before-place : (i : ℕ) → i < at → Less (entryKey (entry l piece)) (entryKey (draft i))
-  before-place i h =
-      let w = place .within in
-      number-rises l (draft i .link) plain (draft-plain i) .1 (omega (arith, place .above i h, number i (omega arith)))
+  pub numbers-fall : RisesByLink (draftsOf work order n) → (i j : ℕ) → i < j → j < n
+      → keyFrom work (slotStart (slotOf order j)) < keyFrom work (slotStart (slotOf order i))
+  numbers-fall rise i j h k =
+      let falls = stacked-falls draft entryKey n rise i j h k in
+      let m = number-rises (draft j .link) (draft i .link) (draft-plain j) (draft-plain i) .0 falls in
+      omega (arith, m, number i (omega arith), number j k)
 
-  -- the drafts after the one at the place have lower numbers
-  after-place : (i : ℕ) → at < i → i < n → Less (entryKey (draft i)) (entryKey (entry l piece))
-  after-place i h k =
-      let falls = stacked-falls draft entryKey n rise at i h k in
-      let m = number-rises (draft i .link) (draft at .link) (draft-plain i) (draft-plain at) .0 falls in
-      number-rises (draft i .link) l (draft-plain i) plain .1
-      (omega (arith, m, place .here (omega arith), number at (omega arith)))
+  -- an entry and its place among the drafts
 
-  module _ (there : at < n) (hit : keyFrom work (slotStart (slotOf order at)) ≡ key) where
-    same-link : l ≡ draft at .link
-    same-link = number-one l (draft at .link) plain (draft-plain at) (is ∙ sym hit ∙ number at there)
+  module _ {key at : ℕ} (rise : RisesByLink (draftsOf work order n)) (place : Place work order n key at)
+      (l : Link) (plain : Plain l) (is : linkNo l ≡ key) (piece : Word) where
+    before-place : (i : ℕ) → i < at → Less (entryKey (entry l piece)) (entryKey (draft i))
+    before-place i h =
+        let w = place .within in
+        number-rises l (draft i .link) plain (draft-plain i) .1 (omega (arith, place .above i h, number i (omega arith)))
 
-    same-key : entryKey (entry l piece) ≡ entryKey (draft at)
-    same-key = ap (λ (l : Link). entryKey (entry l piece)) same-link
+    -- the drafts after the one at the place have lower numbers
+    after-place : (i : ℕ) → at < i → i < n → Less (entryKey (draft i)) (entryKey (entry l piece))
+    after-place i h k =
+        let falls = stacked-falls draft entryKey n rise at i h k in
+        let m = number-rises (draft i .link) (draft at .link) (draft-plain i) (draft-plain at) .0 falls in
+        number-rises (draft i .link) l (draft-plain i) plain .1
+        (omega (arith, m, place .here (omega arith), number at (omega arith)))
 
-    stays : put entryKey (entry l piece) (draftsOf work order n) ≡ draftsOf work order n
-    stays = put-there entryKey (entry l piece) draft n at there same-key after-place
+    module _ (there : at < n) (hit : keyFrom work (slotStart (slotOf order at)) ≡ key) where
+      same-link : l ≡ draft at .link
+      same-link = number-one l (draft at .link) plain (draft-plain at) (is ∙ sym hit ∙ number at there)
 
-    pub same-piece : pieceIn work (slotOf order at) ≡ piece → There false work order n (entry l piece) work order
-    same-piece e =
-        record {
-          clash =
-              no-clash (entry l piece) (draftsOf work order n) (λ f m k.
-              sym e
-              ∙ ap (λ (f : Entry). f .piece) (rises-one entryKey (draftsOf work order n) rise (draft at) f
-              (stacked-in draft n at there) m (sym same-key ∙ k)));
-          is = stays;
-          same-work = refl;
-          same-order = refl;
-        }
+      same-key : entryKey (entry l piece) ≡ entryKey (draft at)
+      same-key = ap (λ (l : Link). entryKey (entry l piece)) same-link
 
-    pub other-piece : (pieceIn work (slotOf order at) ≡ piece → ⊥) → There true work order n (entry l piece) work order
-    other-piece d =
-        record {
-          clash =
-              clashes-exact (entry l piece) (draftsOf work order n) .0
-              (draft at, stacked-in draft n at there, (same-key, λ e. d (sym e)));
-          is = stays;
-          same-work = refl;
-          same-order = refl;
-        }
+      stays : put entryKey (entry l piece) (draftsOf work order n) ≡ draftsOf work order n
+      stays = put-there entryKey (entry l piece) draft n at there same-key after-place
 
-  module _ (new : at < n → keyFrom work (slotStart (slotOf order at)) ≡ key → ⊥) where
-    from-place : (i : ℕ) → at ≤ i → i < n → Less (entryKey (draft i)) (entryKey (entry l piece))
-    from-place i h k = go (eq-or-lt-of-le h)
-      where
-        go : (at ≡ i) ⊎ (at < i) → Less (entryKey (draft i)) (entryKey (entry l piece))
-        go (inr m) = after-place i m k
-        go (inl e) =
-            let m : at < n = omega arith in
-            rw (← e) (number-rises (draft at .link) l (draft-plain at) plain .1
-            (less (eq-or-lt-of-le (place .here m)) m))
-          where
-            less : (keyFrom work (slotStart (slotOf order at)) ≡ key)
-                ⊎ (keyFrom work (slotStart (slotOf order at)) < key) → at < n → linkNo (draft at .link) < linkNo l
-            less (inl z) m = absurd (new m z)
-            less (inr z) m = omega (arith, number at m)
+      pub same-piece : pieceIn work (slotOf order at) ≡ piece → There false work order n (entry l piece) work order
+      same-piece e =
+          record {
+            clash =
+                no-clash (entry l piece) (draftsOf work order n) (λ f m k.
+                sym e
+                ∙ ap (λ (f : Entry). f .piece) (rises-one entryKey (draftsOf work order n) rise (draft at) f
+                (stacked-in draft n at there) m (sym same-key ∙ k)));
+            is = stays;
+            same-work = refl;
+            same-order = refl;
+          }
 
-    not-there : (f : Entry) → f among draftsOf work order n → entryKey (entry l piece) ≡ entryKey f → ⊥
-    not-there f m e =
-        let o = stacked-out draft n m in
-        go (o .0) (o .1) (e ∙ ap entryKey (o .2)) (below-or (o .0) at)
-      where
-        go : (i : ℕ) → i < n → entryKey (entry l piece) ≡ entryKey (draft i) → (i < at) ⊎ (at ≤ i) → ⊥
-        go i h e (inl k) = unlike (entryKey (entry l piece)) (entryKey (draft i)) e (before-place i k)
-        go i h e (inr k) = unlike (entryKey (draft i)) (entryKey (entry l piece)) (sym e) (from-place i k h)
+      pub other-piece : (pieceIn work (slotOf order at) ≡ piece → ⊥) → There true work order n (entry l piece) work order
+      other-piece d =
+          record {
+            clash =
+                clashes-exact (entry l piece) (draftsOf work order n) .0
+                (draft at, stacked-in draft n at there, (same-key, λ e. d (sym e)));
+            is = stays;
+            same-work = refl;
+            same-order = refl;
+          }
 
-    clash-free : clashes (entry l piece) (draftsOf work order n) ≡ false
-    clash-free = no-clash (entry l piece) (draftsOf work order n) (λ f m e. absurd (not-there f m e))
+    module _ (new : at < n → keyFrom work (slotStart (slotOf order at)) ≡ key → ⊥) where
+      from-place : (i : ℕ) → at ≤ i → i < n → Less (entryKey (draft i)) (entryKey (entry l piece))
+      from-place i h k = go (eq-or-lt-of-le h)
+        where
+          go : (at ≡ i) ⊎ (at < i) → Less (entryKey (draft i)) (entryKey (entry l piece))
+          go (inr m) = after-place i m k
+          go (inl e) =
+              let m : at < n = omega arith in
+              rw (← e) (number-rises (draft at .link) l (draft-plain at) plain .1
+              (less (eq-or-lt-of-le (place .here m)) m))
+            where
+              less : (keyFrom work (slotStart (slotOf order at)) ≡ key)
+                  ⊎ (keyFrom work (slotStart (slotOf order at)) < key) → at < n → linkNo (draft at .link) < linkNo l
+              less (inl z) m = absurd (new m z)
+              less (inr z) m = omega (arith, number at m)
 
-    pub no-slot : n ≡ linksCap → NoSlot work order n (entry l piece) work order
-    no-slot full =
-        record {
-          clash = clash-free;
-          full = full;
-          long =
-              put-longer entryKey (entry l piece) (draftsOf work order n) not-there
-              ∙ omega (arith, length-stacked draft n, full);
-          same-work = refl;
-          same-order = refl;
-        }
+      not-there : (f : Entry) → f among draftsOf work order n → entryKey (entry l piece) ≡ entryKey f → ⊥
+      not-there f m e =
+          let o = stacked-out draft n m in
+          go (o .0) (o .1) (e ∙ ap entryKey (o .2)) (below-or (o .0) at)
+        where
+          go : (i : ℕ) → i < n → entryKey (entry l piece) ≡ entryKey (draft i) → (i < at) ⊎ (at ≤ i) → ⊥
+          go i h e (inl k) = unlike (entryKey (entry l piece)) (entryKey (draft i)) e (before-place i k)
+          go i h e (inr k) = unlike (entryKey (draft i)) (entryKey (entry l piece)) (sym e) (from-place i k h)
 
-    module _ {work′ order′ : List ℕ} (fill : Filled work n key piece work′) (into : Inserted order n at order′) where
-      -- a draft that was there is in the same slot, which is not the new one
-      old : (i : ℕ) → i < n → slotOf order i ≡ n → ⊥
-      old i h e = omega (arith, drafts .within i h)
+      clash-free : clashes (entry l piece) (draftsOf work order n) ≡ false
+      clash-free = no-clash (entry l piece) (draftsOf work order n) (λ f m e. absurd (not-there f m e))
 
-      draft-there : (i : ℕ) → i < n → draftIn work′ (slotOf order i) ≡ draft i
-      draft-there i h = draft-stays fill (slotOf order i) (old i h) (drafts .short i h)
-
-      new-draft : draftIn work′ n ≡ entry l piece
-      new-draft =
-          let a = fill .link l plain is .0 in
-          let b = fill .is in
-          λ i. entry (a i) (b i)
-
-      pub listed : draftsOf work′ order′ (n + 1) ≡ put entryKey (entry l piece) (draftsOf work order n)
-      listed =
-          rw add-one
-          (sym (put-between entryKey (entry l piece) draft (λ i. draftIn work′ (slotOf order′ i)) n at (place .within)
-          before-place from-place
-          (λ i h.
-          let w = place .within in
-          ap (draftIn work′) (into .before i h) ∙ draft-there i (omega arith))
-          (ap (draftIn work′) (into .here) ∙ new-draft)
-          (λ i h k.
-          ap (λ (j : ℕ). draftIn work′ (slotOf order′ j)) (sym (add-one i)) ∙ ap (draftIn work′) (into .after i h k)
-          ∙ draft-there i k)))
-
-      within : (j : ℕ) → Came order n at order′ j → slotOf order′ j < n + 1
-      within j (stayed h e) = omega (arith, drafts .within j (omega (arith, place .within)))
-      within j (fresh h e) = omega arith
-      within j (moved k d g h e) = omega (arith, drafts .within k h)
-
-      once : (i j : ℕ) → i < j → Came order n at order′ i → Came order n at order′ j
-          → slotOf order′ i ≡ slotOf order′ j → ⊥
-      once i j l (stayed h e) (stayed g f) z =
-          drafts .once i j l (omega (arith, place .within)) (sym e ∙ z ∙ f)
-      once i j l (stayed h e) (fresh g f) z = old i (omega (arith, place .within)) (sym e ∙ z ∙ f)
-      once i j l (stayed h e) (moved k d g m f) z = drafts .once i k (omega arith) m (sym e ∙ z ∙ f)
-      once i j l (fresh h e) (stayed g f) z = omega arith
-      once i j l (fresh h e) (fresh g f) z = omega arith
-      once i j l (fresh h e) (moved k d g m f) z = old k m (sym f ∙ sym z ∙ e)
-      once i j l (moved k d g m e) (stayed h f) z = omega arith
-      once i j l (moved k d g m e) (fresh h f) z = omega arith
-      once i j l (moved k d g m e) (moved t b h o f) z = drafts .once k t (omega arith) o (sym e ∙ z ∙ f)
-
-      -- what holds of the slots that were in use, and of the new one
-      slots-all : (P : ℕ → Type 0) → ((i : ℕ) → i < n → P (slotOf order i)) → P n → (j : ℕ) → Came order n at order′ j
-          → P (slotOf order′ j)
-      slots-all P h k j (stayed l e) = subst P (sym e) (h j (omega (arith, place .within)))
-      slots-all P h k j (fresh l e) = subst P (sym e) k
-      slots-all P h k j (moved i d g m e) = subst P (sym e) (h i m)
-
-      pub placed : n < linksCap → length piece ≤ draftRoom → Placed work order n (entry l piece) work′ order′
-      placed few short =
+      pub no-slot : n ≡ linksCap → NoSlot work order n (entry l piece) work order
+      no-slot full =
           record {
             clash = clash-free;
-            is = listed;
-            drafts = record {
-              whole = fill .whole ∙ drafts .whole;
-              small = fill .small;
-              ordered = into .whole ∙ drafts .ordered;
-              few = omega arith;
-              within = λ j h. within j (came into j h);
-              once = λ i j h k. once i j h (came into i (omega arith)) (came into j k);
-              below = λ j h.
-                  slots-all (λ t. NoneBelow work′ (slotStart t))
-                  (λ i k. none-stays fill (slotOf order i) (old i k) (drafts .below i k))
-                  (fill .link l plain is .1) j (came into j h);
-              short = λ j h.
-                  slots-all (λ t. lengthIn work′ t ≤ draftRoom)
-                  (λ i k. omega (arith, length-stays fill (slotOf order i) (old i k), drafts .short i k))
-                  (omega (arith, fill .long)) j (came into j h);
-            };
+            full = full;
+            long =
+                put-longer entryKey (entry l piece) (draftsOf work order n) not-there
+                ∙ omega (arith, length-stacked draft n, full);
+            same-work = refl;
+            same-order = refl;
           }
+
+      module _ {work′ order′ : List ℕ} (fill : Filled work n key piece work′) (into : Inserted order n at order′) where
+        -- a draft that was there is in the same slot, which is not the new one
+        old : (i : ℕ) → i < n → slotOf order i ≡ n → ⊥
+        old i h e = omega (arith, drafts .within i h)
+
+        draft-there : (i : ℕ) → i < n → draftIn work′ (slotOf order i) ≡ draft i
+        draft-there i h = draft-stays fill (slotOf order i) (old i h) (drafts .short i h)
+
+        new-draft : draftIn work′ n ≡ entry l piece
+        new-draft =
+            let a = fill .link l plain is .0 in
+            let b = fill .is in
+            λ i. entry (a i) (b i)
+
+        pub listed : draftsOf work′ order′ (n + 1) ≡ put entryKey (entry l piece) (draftsOf work order n)
+        listed =
+            rw add-one
+            (sym (put-between entryKey (entry l piece) draft (λ i. draftIn work′ (slotOf order′ i)) n at (place .within)
+            before-place from-place
+            (λ i h.
+            let w = place .within in
+            ap (draftIn work′) (into .before i h) ∙ draft-there i (omega arith))
+            (ap (draftIn work′) (into .here) ∙ new-draft)
+            (λ i h k.
+            ap (λ (j : ℕ). draftIn work′ (slotOf order′ j)) (sym (add-one i)) ∙ ap (draftIn work′) (into .after i h k)
+            ∙ draft-there i k)))
+
+        within : (j : ℕ) → Came order n at order′ j → slotOf order′ j < n + 1
+        within j (stayed h e) = omega (arith, drafts .within j (omega (arith, place .within)))
+        within j (fresh h e) = omega arith
+        within j (moved k d g h e) = omega (arith, drafts .within k h)
+
+        once : (i j : ℕ) → i < j → Came order n at order′ i → Came order n at order′ j
+            → slotOf order′ i ≡ slotOf order′ j → ⊥
+        once i j l (stayed h e) (stayed g f) z =
+            drafts .once i j l (omega (arith, place .within)) (sym e ∙ z ∙ f)
+        once i j l (stayed h e) (fresh g f) z = old i (omega (arith, place .within)) (sym e ∙ z ∙ f)
+        once i j l (stayed h e) (moved k d g m f) z = drafts .once i k (omega arith) m (sym e ∙ z ∙ f)
+        once i j l (fresh h e) (stayed g f) z = omega arith
+        once i j l (fresh h e) (fresh g f) z = omega arith
+        once i j l (fresh h e) (moved k d g m f) z = old k m (sym f ∙ sym z ∙ e)
+        once i j l (moved k d g m e) (stayed h f) z = omega arith
+        once i j l (moved k d g m e) (fresh h f) z = omega arith
+        once i j l (moved k d g m e) (moved t b h o f) z = drafts .once k t (omega arith) o (sym e ∙ z ∙ f)
+
+        -- what holds of the slots that were in use, and of the new one
+        slots-all : (P : ℕ → Type 0) → ((i : ℕ) → i < n → P (slotOf order i)) → P n → (j : ℕ) → Came order n at order′ j
+            → P (slotOf order′ j)
+        slots-all P h k j (stayed l e) = subst P (sym e) (h j (omega (arith, place .within)))
+        slots-all P h k j (fresh l e) = subst P (sym e) k
+        slots-all P h k j (moved i d g m e) = subst P (sym e) (h i m)
+
+        pub placed : n < linksCap → length piece ≤ draftRoom → Placed work order n (entry l piece) work′ order′
+        placed few short =
+            record {
+              clash = clash-free;
+              is = listed;
+              drafts = record {
+                whole = fill .whole ∙ drafts .whole;
+                small = fill .small;
+                ordered = into .whole ∙ drafts .ordered;
+                few = omega arith;
+                within = λ j h. within j (came into j h);
+                once = λ i j h k. once i j h (came into i (omega arith)) (came into j k);
+                below = λ j h.
+                    slots-all (λ t. NoneBelow work′ (slotStart t))
+                    (λ i k. none-stays fill (slotOf order i) (old i k) (drafts .below i k))
+                    (fill .link l plain is .1) j (came into j h);
+                short = λ j h.
+                    slots-all (λ t. lengthIn work′ t ≤ draftRoom)
+                    (λ i k. omega (arith, length-stays fill (slotOf order i) (old i k), drafts .short i k))
+                    (omega (arith, fill .long)) j (came into j h);
+              };
+            }

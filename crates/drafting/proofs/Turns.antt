@@ -21,9 +21,13 @@ pub record Above (work order : List ℕ) (key n : ℕ) : Type 0 where
 pub above-none : {work order : List ℕ} {key : ℕ} → Above work order key 0
 above-none = record { each = λ i h. absurd (omega arith) }
 
-pub above-more : {work order : List ℕ} {key n : ℕ} → Above work order key n
-    → key < keyFrom work (slotStart (slotOf order n)) → Above work order key (n + 1)
-above-more a h = record { each = below-more _ _ (a .each) h }
+-- where the numbers fall, all up to one that is greater are greater
+pub above-upto : {work order : List ℕ} {key n : ℕ} (m : ℕ)
+    → ((i j : ℕ) → i < j → j < n
+    → keyFrom work (slotStart (slotOf order j)) < keyFrom work (slotStart (slotOf order i)))
+    → m < n → key < keyFrom work (slotStart (slotOf order m)) → Above work order key (m + 1)
+above-upto {work} {order} {key} m fall lt h =
+    record { each = below-more _ _ (λ i l. let f = fall i m l lt in omega arith) h }
 
 pub above-place : {work order : List ℕ} {key n at : ℕ} → Above work order key at → at ≤ n
     → (at < n → keyFrom work (slotStart (slotOf order at)) ≤ key) → Place work order n key at

@@ -53,17 +53,20 @@ pub fn put(
 
 // How many drafts have a greater number: they are read before the place.
 fn place(work: &[u8; WORK], order: &[u8; 64], n: usize, key: usize) -> usize
-    requires { ⌜ Drafts (now work) (now order) n ⌝ }
+    requires { ⌜ (Drafts (now work) (now order) n) × (RisesByLink (draftsOf (now work) (now order) n)) ⌝ }
     ensures { λ r. ⌜ Place (now (work .entry)) (now (order .entry)) n key r ⌝ }
 {
-    let mut i: usize = 0;
-    while i < n {
-        if slots::key(work, slots::slot(order, i)) <= key {
-            return i;
+    let mut low: usize = 0;
+    let mut high = n;
+    while low < high {
+        let middle = low + (high - low) / 2;
+        if slots::key(work, slots::slot(order, middle)) <= key {
+            high = middle;
+        } else {
+            low = middle + 1;
         }
-        i += 1;
     }
-    i
+    low
 }
 
 // Whether a piece is three parts, one after the other.
