@@ -1,6 +1,6 @@
--- The cycle of calls of `branch`, `read` and `read_on` (`joiner::reading`): a branch reads what is left of the word, and
--- a reading that goes on has a branch for each row of the word's first byte, so that the word gets shorter. Assumes
--- nothing.
+-- The cycle of calls of `branch`, `read` and `read_on` (`joiner::reading`): a branch reads what is left of the word,
+-- and a reading that goes on has a branch for each row of the word's first byte, so that the word gets shorter.
+-- Assumes nothing.
 use native.Mathlib.Omega.{arith}
 use mathlib.Core.Path.{_≡_, sym, ap}
 use mathlib.Core.List.{List, [], _∷_}
