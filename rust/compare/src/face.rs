@@ -1,6 +1,7 @@
 //! The library under comparison, called through its C interface with guarded buffers.
 
 use crate::session::BYTES;
+use std::sync::atomic::{AtomicBool, Ordering};
 
 const WORK: usize = 49_664;
 const GUARD: usize = 64;
@@ -37,12 +38,23 @@ extern "C" {
         out_len: usize,
         count: *mut usize,
     ) -> u32;
+    fn jermanuts_join(
+        first: *const u8,
+        first_len: usize,
+        second: *const u8,
+        second_len: usize,
+        out: *mut u8,
+        out_len: usize,
+        which: *mut u32,
+        count: *mut usize,
+    ) -> u32;
 }
 
 /// What a call gave back and left behind, as far as the call has such a thing.
 #[derive(Clone, Debug, PartialEq, Eq)]
 pub struct Reply {
     pub number: u32,
+    pub which: u32,
     pub count: usize,
     pub out: Vec<u8>,
     pub session: Vec<u8>,
@@ -56,19 +68,28 @@ pub enum Call {
     Step,
     StepIn,
     Finish,
+    Join,
 }
 
-pub const CALLS: [(Call, &str); 5] = [
+pub const CALLS: [(Call, &str); 6] = [
     (Call::Check, "check"),
     (Call::Begin, "begin"),
     (Call::Step, "step"),
     (Call::StepIn, "step_in"),
     (Call::Finish, "finish"),
+    (Call::Join, "join"),
 ];
+
+/// Under a memory checker buffers end where they end, since reads past the end leave guards whole.
+static EXACT: AtomicBool = AtomicBool::new(false);
+
+pub fn lend_exactly() {
+    EXACT.store(true, Ordering::Relaxed);
+}
 
 /// A lent buffer between two guards; where it starts changes, so no alignment is promised.
 struct Lent {
-    bytes: Vec<u8>,
+    bytes: Box<[u8]>,
     start: usize,
     length: usize,
 }
@@ -79,12 +100,17 @@ fn guard(at: usize) -> u8 {
 
 impl Lent {
     fn new(turn: usize, content: &[u8]) -> Lent {
-        let start = GUARD + turn % 8;
+        let guarded = if EXACT.load(Ordering::Relaxed) {
+            0
+        } else {
+            GUARD
+        };
+        let start = guarded + turn % 8;
         let mut bytes: Vec<u8> = (0..start).map(guard).collect();
         bytes.extend_from_slice(content);
-        bytes.extend((bytes.len()..bytes.len() + GUARD).map(guard));
+        bytes.extend((bytes.len()..bytes.len() + guarded).map(guard));
         Lent {
-            bytes,
+            bytes: bytes.into_boxed_slice(),
             start,
             length: content.len(),
         }
@@ -128,7 +154,13 @@ pub fn ask(call: Call, file: &[u8], session: &[u8], symbol: u8, room: usize, tur
     let mut states = [UNTOUCHED as u32; 3];
 
     let (f, n) = (lent_file.pointer().cast_const(), file.len());
-    let (s, o, w) = (lent_session.pointer(), out.pointer(), work.pointer());
+    let (s, o) = (lent_session.pointer(), out.pointer());
+    // A memory checker gets a room that nobody has written to, and sees what depends on it.
+    let mut unwritten: Vec<u8> = Vec::with_capacity(WORK);
+    let w = match EXACT.load(Ordering::Relaxed) {
+        true => unwritten.as_mut_ptr(),
+        false => work.pointer(),
+    };
     let c = counts.as_mut_ptr().wrapping_add(1);
     let t = states.as_mut_ptr().wrapping_add(1);
     // SAFETY: every pointer leads to a live buffer of the length that the interface asks for,
@@ -140,10 +172,11 @@ pub fn ask(call: Call, file: &[u8], session: &[u8], symbol: u8, room: usize, tur
             Call::Step => jermanuts_step(f, n, s, symbol, o, room, c),
             Call::StepIn => jermanuts_step_in(f, n, s, symbol, o, room, c, w),
             Call::Finish => jermanuts_finish(f, n, s.cast_const(), o, room, c),
+            Call::Join => unreachable!("a join has two files: ask_join"),
         }
     };
 
-    let harm = [
+    let harm = first_harm(&[
         ("a guard of the file", !lent_file.guards_hold()),
         ("the file", lent_file.content() != file),
         ("a guard of the session", !lent_session.guards_hold()),
@@ -157,9 +190,10 @@ pub fn ask(call: Call, file: &[u8], session: &[u8], symbol: u8, room: usize, tur
             "a neighbour of the state count",
             states[0] != UNTOUCHED as u32 || states[2] != states[0],
         ),
-    ];
+    ]);
     Reply {
         number,
+        which: 0,
         count: match call {
             Call::Check => 0,
             Call::Begin => states[1] as usize,
@@ -167,9 +201,56 @@ pub fn ask(call: Call, file: &[u8], session: &[u8], symbol: u8, room: usize, tur
         },
         out: out.content().to_vec(),
         session: lent_session.content().to_vec(),
-        harm: harm
-            .iter()
-            .find(|(_, harmed)| *harmed)
-            .map(|(name, _)| *name),
+        harm,
+    }
+}
+
+fn first_harm(harms: &[(&'static str, bool)]) -> Option<&'static str> {
+    harms
+        .iter()
+        .find(|(_, harmed)| *harmed)
+        .map(|(name, _)| *name)
+}
+
+/// Joins two files once.
+pub fn ask_join(first: &[u8], second: &[u8], room: usize, turn: usize) -> Reply {
+    let mut lent_first = Lent::new(turn, first);
+    let mut lent_second = Lent::new(turn / 3, second);
+    let mut out = Lent::new(turn / 5, &filling(room));
+    let mut counts = [UNTOUCHED; 3];
+    let mut which = [UNTOUCHED as u32; 3];
+
+    let (f, s) = (
+        lent_first.pointer().cast_const(),
+        lent_second.pointer().cast_const(),
+    );
+    let o = out.pointer();
+    let w = which.as_mut_ptr().wrapping_add(1);
+    let c = counts.as_mut_ptr().wrapping_add(1);
+    // SAFETY: every pointer leads to a live buffer of the length told, and no two overlap.
+    let number = unsafe { jermanuts_join(f, first.len(), s, second.len(), o, room, w, c) };
+
+    let harm = first_harm(&[
+        ("a guard of the first file", !lent_first.guards_hold()),
+        ("the first file", lent_first.content() != first),
+        ("a guard of the second file", !lent_second.guards_hold()),
+        ("the second file", lent_second.content() != second),
+        ("a guard of the output", !out.guards_hold()),
+        (
+            "a neighbour of the byte count",
+            counts[0] != UNTOUCHED || counts[2] != UNTOUCHED,
+        ),
+        (
+            "a neighbour of which",
+            which[0] != UNTOUCHED as u32 || which[2] != which[0],
+        ),
+    ]);
+    Reply {
+        number,
+        which: which[1],
+        count: counts[1],
+        out: out.content().to_vec(),
+        session: vec![],
+        harm,
     }
 }

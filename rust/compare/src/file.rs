@@ -130,3 +130,47 @@ fn row(bytes: &[u8], classes: &[u8; 256], states: u8, markers: u8, words: &[u8])
         word,
     })
 }
+
+/// A file whose contents agree with its bodies, whatever those are.
+pub fn assemble(caps: [u8; 6], bodies: &[Vec<u8>; BODIES]) -> Vec<u8> {
+    let length = HEAD + bodies.iter().map(Vec::len).sum::<usize>();
+    let mut file = caps.to_vec();
+    file.extend((length as u16).to_le_bytes());
+    let mut start = HEAD;
+    for body in bodies {
+        file.extend((start as u16).to_le_bytes());
+        file.extend((body.len() as u16).to_le_bytes());
+        start += body.len();
+    }
+    file.extend(bodies.concat());
+    file
+}
+
+/// The file of a table whose rows each start at a place of the words body.
+pub fn lay(table: &Table, starts: &[usize], words: Vec<u8>) -> Vec<u8> {
+    let mut rows = vec![];
+    for (row, &start) in table.rows.iter().zip(starts) {
+        let [low, high] = (start as u16).to_le_bytes();
+        let length = row.word.len() as u8;
+        rows.extend([
+            row.symbol, row.from, row.to, row.marker, low, high, length, 0,
+        ]);
+    }
+    let [low, high] = table.waiting_cap.to_le_bytes();
+    let caps = [1, table.states, table.markers, table.depth_cap, low, high];
+    let [starting, finals] = [table.starting, table.finals].map(|set| set.to_le_bytes().to_vec());
+    assemble(
+        caps,
+        &[table.classes.to_vec(), starting, finals, rows, words],
+    )
+}
+
+/// The file of a joined table: words are laid in row order, none shared.
+pub fn lay_in_order(table: &Table) -> Vec<u8> {
+    let (mut starts, mut words) = (vec![], vec![]);
+    for row in &table.rows {
+        starts.push(words.len());
+        words.extend(&row.word);
+    }
+    lay(table, &starts, words)
+}

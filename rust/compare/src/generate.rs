@@ -1,6 +1,7 @@
 //! Seeded makers: chance itself, symbols and rooms; tables, files and sessions below.
 
 pub mod files;
+pub mod joins;
 pub mod sessions;
 pub mod tables;
 

@@ -20,6 +20,8 @@ pub enum Number {
     Unclosed,
     NotFinal,
     Ambiguous,
+    NotNested,
+    TooLarge,
 }
 
 #[derive(Clone, Copy, Debug, Default, PartialEq, Eq, PartialOrd, Ord)]

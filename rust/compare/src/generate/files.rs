@@ -1,7 +1,7 @@
 //! Rule files, good and damaged.
 
 use super::Rng;
-use crate::file::{Row, Table, BODIES, HEAD, INTERNAL, MOST_ROWS, MOST_WORDS, ROW};
+use crate::file::{self, assemble, Row, Table, BODIES, HEAD, INTERNAL, MOST_ROWS, MOST_WORDS, ROW};
 
 /// The bytes of a good table; rows whose words find no more room are dropped.
 pub fn lay(rng: &mut Rng, table: &Table) -> Vec<u8> {
@@ -24,47 +24,25 @@ pub fn lay(rng: &mut Rng, table: &Table) -> Vec<u8> {
     words.extend((0..rng.pick(&[0, 0, 3])).map(|_| rng.byte()));
     words.truncate(MOST_WORDS);
 
-    let mut rows = vec![];
-    for (row, start) in laid {
+    let mut starts = vec![];
+    for (row, start) in &laid {
         // An empty word may start anywhere, the body's end included.
         let anywhere = rng.below(words.len() + 1);
-        let start = if row.word.is_empty() {
+        starts.push(if row.word.is_empty() {
             rng.pick(&[0, words.len(), anywhere])
         } else {
-            start
-        };
-        let [low, high] = (start as u16).to_le_bytes();
-        rows.extend([
-            row.symbol,
-            row.from,
-            row.to,
-            row.marker,
-            low,
-            high,
-            row.word.len() as u8,
-            0,
-        ]);
+            *start
+        });
     }
-    let [low, high] = table.waiting_cap.to_le_bytes();
-    let caps = [1, table.states, table.markers, table.depth_cap, low, high];
-    let [starting, finals] = [table.starting, table.finals].map(|set| set.to_le_bytes().to_vec());
-    let bodies = [table.classes.to_vec(), starting, finals, rows, words];
-    assemble(caps, &bodies)
-}
-
-/// A file whose contents agree with its bodies, whatever those are.
-fn assemble(caps: [u8; 6], bodies: &[Vec<u8>; BODIES]) -> Vec<u8> {
-    let length = HEAD + bodies.iter().map(Vec::len).sum::<usize>();
-    let mut file = caps.to_vec();
-    file.extend((length as u16).to_le_bytes());
-    let mut start = HEAD;
-    for body in bodies {
-        file.extend((start as u16).to_le_bytes());
-        file.extend((body.len() as u16).to_le_bytes());
-        start += body.len();
-    }
-    file.extend(bodies.concat());
-    file
+    let rows = laid.into_iter().map(|(row, _)| row.clone()).collect();
+    file::lay(
+        &Table {
+            rows,
+            ..table.clone()
+        },
+        &starts,
+        words,
+    )
 }
 
 fn disassemble(file: &[u8]) -> ([u8; 6], [Vec<u8>; BODIES]) {

@@ -80,7 +80,7 @@ impl Symbols {
     }
 }
 
-fn caps(rng: &mut Rng) -> (u8, u16) {
+pub fn caps(rng: &mut Rng) -> (u8, u16) {
     let depth = rng.pick(&[1, 2, 2, 3, 4, 6, 8, 16, 32, 32]);
     let waiting = rng.pick(&[0, 1, 2, 3, 4, 6, 8, 16, 40, 100, 255, 511, 512]);
     (depth, waiting)
@@ -101,7 +101,7 @@ pub fn table(rng: &mut Rng) -> Table {
 }
 
 /// Puts rows in order and within number, and sees to it that there is a starting state.
-fn tidy(rng: &mut Rng, table: &mut Table) {
+pub fn tidy(rng: &mut Rng, table: &mut Table) {
     table.rows.sort();
     table.rows.dedup();
     while table.rows.len() > MOST_ROWS {

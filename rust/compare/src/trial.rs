@@ -1,5 +1,7 @@
 //! Calls made and held against the model, counted by call and number.
 
+mod joins;
+
 use crate::face::{self, Call, Reply, CALLS};
 use crate::file::Table;
 use crate::generate::{self, Rng};
@@ -7,7 +9,11 @@ use crate::model::{self, Moved, Number, Run};
 use crate::session::{self, Verdict};
 use std::collections::BTreeSet;
 
-const NUMBERS: usize = 14;
+const NUMBERS: usize = 16;
+
+/// From this many calls on, every number must have come up once in so many calls.
+const MANY_CALLS: u64 = 50_000;
+const RAREST: u64 = 2_000;
 
 /// Moves that would have to be listed one by one for a step; more are left alone.
 const MOST_MOVES: usize = 12_000;
@@ -76,20 +82,22 @@ struct Seen {
     most_waiting: usize,
 }
 
-pub struct Bench {
+pub struct Trial {
     seed: u64,
     case: u64,
     turn: usize,
     seen: Seen,
+    joined: joins::Seen,
 }
 
-impl Bench {
-    pub fn new(seed: u64) -> Bench {
-        Bench {
+impl Trial {
+    pub fn new(seed: u64) -> Trial {
+        Trial {
             seed,
             case: 0,
             turn: 0,
             seen: Seen::default(),
+            joined: joins::Seen::default(),
         }
     }
 
@@ -107,7 +115,7 @@ impl Bench {
     pub fn difference(&self, what: &str) -> Difference {
         let (seed, case) = (self.seed, self.case);
         Difference(format!(
-            "seed {seed} case {case}: {what}\nagain: compare {seed} 1 {case}"
+            "seed {seed} case {case}: {what}\nagain: rust/compare/check {seed} 1 {case}"
         ))
     }
 
@@ -126,6 +134,7 @@ impl Bench {
         out[..expected.written.len()].copy_from_slice(&expected.written);
         let wanted = Reply {
             number: expected.number as u32,
+            which: 0,
             count: expected.count,
             out,
             session: expected.session.clone(),
@@ -142,8 +151,12 @@ impl Bench {
             ];
             return Err(self.difference(&told.join("\n")));
         }
-        self.seen.numbers[call as usize][expected.number as usize] += 1;
+        self.count(call, expected.number);
         Ok(())
+    }
+
+    fn count(&mut self, call: Call, number: Number) {
+        self.seen.numbers[call as usize][number as usize] += 1;
     }
 
     pub fn check(&mut self, subject: &Subject) -> Outcome {
@@ -327,17 +340,18 @@ impl Bench {
         seen.most_waiting = seen.most_waiting.max(waiting);
     }
 
+    /// Prints how often each number was given and what else came up.
     pub fn report(&self) {
         let seen = &self.seen;
         print!("number");
         CALLS.iter().for_each(|(_, name)| print!("{name:>10}"));
-        println!();
+        println!("{:>10}", "all");
         for number in 0..NUMBERS {
             print!("{number:>6}");
             seen.numbers
                 .iter()
                 .for_each(|counts| print!("{:>10}", counts[number]));
-            println!();
+            println!("{:>10}", self.often(number));
         }
         println!(
             "steps taken to more than one run: {}, to waiting output: {}, on several levels: {}",
@@ -351,11 +365,34 @@ impl Bench {
             "steps left alone for too many trails or moves: {}",
             seen.left_alone
         );
+        self.joined.report();
+    }
+
+    fn often(&self, number: usize) -> u64 {
+        self.seen.numbers.iter().map(|counts| counts[number]).sum()
+    }
+
+    /// A line for each kind of comparison; a run of many calls must have seen every number often.
+    pub fn verdicts(&self) -> (usize, usize) {
+        let calls = self.calls();
+        let of_call = |call: usize| self.seen.numbers[call].iter().sum::<u64>() > 0;
+        let rarest = (0..NUMBERS)
+            .map(|number| self.often(number))
+            .min()
+            .unwrap_or(0);
+        let mut good: Vec<bool> = (0..CALLS.len()).map(of_call).collect();
+        good.push(self.joined.messages() > 0);
+        if calls >= MANY_CALLS {
+            good.push(rarest >= calls / RAREST);
+            good.push(self.joined.all());
+        }
+        let passed = good.iter().filter(|&&good| good).count();
+        (passed, good.len() - passed)
     }
 }
 
 /// A panic is the model's own fault; it too must say where to look.
-impl Drop for Bench {
+impl Drop for Trial {
     fn drop(&mut self) {
         if std::thread::panicking() {
             println!("{}", self.difference("the model broke down").0);
@@ -405,8 +442,9 @@ fn tell(reply: &Reply) -> String {
         .map_or(0, |last| last + 1)
         .max(reply.count.min(reply.out.len()));
     format!(
-        "number {}, count {}, out {}, harm {:?}, session {}",
+        "number {}, which {}, count {}, out {}, harm {:?}, session {}",
         reply.number,
+        reply.which,
         reply.count,
         hex(&reply.out[..shown]),
         reply.harm,
