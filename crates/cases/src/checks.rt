@@ -99,9 +99,9 @@ fn marker_faults() {
 fn taken(file: &[u8]) -> u64
     ensures { λ r. ⌜ r ≤ 1 ⌝ }
 {
-    match table::check(file) {
-        table::Verdict::Taken => 1,
-        table::Verdict::BadTable => 0,
+    match checking::check(file) {
+        checking::Verdict::Taken => 1,
+        checking::Verdict::BadTable => 0,
     }
 }
 

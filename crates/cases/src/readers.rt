@@ -12,9 +12,9 @@ pub fn all() {
 
 // What the readers say of a file, if it is good.
 fn readings(file: &[u8]) {
-    match table::check(file) {
-        table::Verdict::BadTable => {}
-        table::Verdict::Taken => show(file),
+    match checking::check(file) {
+        checking::Verdict::BadTable => {}
+        checking::Verdict::Taken => show(file),
     }
 }
 
@@ -39,7 +39,7 @@ fn show_body(file: &[u8])
     requires { ⌜ Good first (now file) ⌝ }
 {
     let starting = table::starting_set(file);
-    say(b"starting states", table::sets::size(starting) as u64);
+    say(b"starting states", sets::size(starting) as u64);
     say(b"final set", table::final_set(file));
     say(b"rows", table::row_count(file) as u64);
     say(b"first row of 10", table::first_row(file, 10) as u64);
@@ -48,9 +48,9 @@ fn show_body(file: &[u8])
 
 // The rows of a file, if it is good.
 pub fn list(file: &[u8]) {
-    match table::check(file) {
-        table::Verdict::BadTable => {}
-        table::Verdict::Taken => show_rows(file),
+    match checking::check(file) {
+        checking::Verdict::BadTable => {}
+        checking::Verdict::Taken => show_rows(file),
     }
 }
 

@@ -18,9 +18,9 @@ pub fn all() {
 
 // The number for a session: 0 where it is sound for the table, 2 where it is not.
 pub fn judged(file: &[u8], session: &[u8; SIZE]) -> u64 {
-    match table::check(file) {
-        table::Verdict::BadTable => 1,
-        table::Verdict::Taken => found(file, session),
+    match checking::check(file) {
+        checking::Verdict::BadTable => 1,
+        checking::Verdict::Taken => found(file, session),
     }
 }
 

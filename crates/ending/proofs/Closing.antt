@@ -22,7 +22,7 @@ use Rattle.meaning.proofs.Tests.{absent}
 use Rattle.meaning.proofs.Finish.{differ-exact, agreeing}
 use Rattle.table.specs.File.{byte, tableOf}
 use Rattle.table.specs.Good.{first, Good}
-use Rattle.table.proofs.Members.{members-exact}
+use Rattle.sets.proofs.Members.{members-exact}
 use Rattle.table.proofs.Stands.{good-table}
 use Rattle.standing.specs.Sessions.{Entry, entry, Session, trails, stands}
 use Rattle.standing.specs.Bytes.{countOf, linkAt, pieceAt, sessionOf, SoundBytes}

@@ -4,7 +4,7 @@ use mathlib.Core.Bool.{Bool, true, false}
 use mathlib.Core.List.{List}
 use Prim.Native.Nat.{ℕ, _<_, _≤_}
 use Rattle.words.specs.Words.{Bytes}
-use Rattle.table.specs.Sets.{isIn, members}
+use Rattle.sets.specs.Sets.{isIn, members}
 use Rattle.table.specs.File.{byte, tableOf}
 use Rattle.table.specs.Good.{first, Good}
 use Rattle.standing.specs.Bytes.{countOf, linkAt, pieceAt, SoundBytes}

@@ -1,7 +1,6 @@
 // The end of a message: whether it is accepted, and what still waits. No session is changed.
 use crate::sending;
 use places::SIZE;
-use table::sets;
 use words::same;
 ghost use Prim.Native.Nat.{_<_};
 ghost use Rattle.words.specs.Words.{Bytes};
@@ -28,9 +27,9 @@ pub fn finish(file: &[u8], session: &[u8; SIZE], out: &mut [u8]) -> Ending
     ensures { λ r. ⌜
         Ended (now (file .entry)) (now (session .entry)) (now (out .entry)) r (now (out .exit)) ⌝ }
 {
-    match table::check(file) {
-        table::Verdict::BadTable => Ending::BadTable,
-        table::Verdict::Taken => of_table(file, session, out),
+    match checking::check(file) {
+        checking::Verdict::BadTable => Ending::BadTable,
+        checking::Verdict::Taken => of_table(file, session, out),
     }
 }
 

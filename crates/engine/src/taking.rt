@@ -51,9 +51,9 @@ pub fn step_in(
         Answered (now (file .entry)) (now (session .entry)) symbol (now (out .entry)) r
         (now (session .exit)) (now (out .exit)) ⌝ }
 {
-    match table::check(file) {
-        table::Verdict::BadTable => Answer::BadTable,
-        table::Verdict::Taken => on_table(file, session, symbol, out, work),
+    match checking::check(file) {
+        checking::Verdict::BadTable => Answer::BadTable,
+        checking::Verdict::Taken => on_table(file, session, symbol, out, work),
     }
 }
 

@@ -2,8 +2,9 @@
 use mathlib.Core.Path.{_≡_}
 use mathlib.Core.List.{List}
 use Prim.Native.Nat.{ℕ}
-use Rattle.table.specs.Calls.{numberOf as verdictNumber, Judged, Checked}
-use Rattle.table.specs.declared.Verdict.{Verdict}
+use Rattle.table.specs.Calls.{Judged}
+use Rattle.checking.specs.Calls.{numberOf as verdictNumber, Checked}
+use Rattle.checking.specs.declared.Verdict.{Verdict}
 use Rattle.session.specs.Calls.{numberOf, statesOf, Begins, Begun}
 use Rattle.session.specs.declared.fresh.Opening.{Opening}
 use Rattle.joining.specs.Promises.{Joins}

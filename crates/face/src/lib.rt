@@ -1,12 +1,12 @@
 // The calls for programs in C and Rust: each answers the scope's number, and what else a call gives is written where
 // the caller says.
+use checking::Verdict;
 use engine::WORK;
 use engine::said_by_finish;
 use engine::said_by_step;
 use joiner::Joining;
 use places::SIZE;
 use session::Opening;
-use table::Verdict;
 ghost use mathlib.Core.Path.{_≡_};
 ghost use Rattle.table.specs.Calls.{Judged};
 ghost use Rattle.session.specs.Calls.{numberOf, statesOf, Begins};
@@ -18,7 +18,7 @@ ghost use Rattle.joiner.specs.Calls.{numberOf as joiningNumber, whichOf, countO
 pub extern "C" fn jermanuts_check(file: &[u8]) -> u32
     ensures { λ r. ⌜ Judged (now (file .entry)) r ⌝ }
 {
-    match table::check(file) {
+    match checking::check(file) {
         Verdict::Taken => 0,
         Verdict::BadTable => 1,
     }

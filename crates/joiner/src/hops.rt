@@ -1,11 +1,11 @@
 // Two tables become one: the tests in their order, each after the work that it needs. The output is written only once
 // all have passed.
 use crate::gathering;
+use checking::Verdict;
 use laying::Sizes;
 use nesting::nests;
 use shelf::ROOM;
 use shelf::Shelf;
-use table::Verdict;
 ghost use Rattle.words.specs.Lists.{Exact};
 ghost use Rattle.words.specs.Words.{Bytes};
 ghost use Rattle.meaning.specs.Sentences.{LongWord};
@@ -30,7 +30,7 @@ pub fn join(first: &[u8], second: &[u8], out: &mut [u8]) -> Joining
     ensures { λ r. ⌜
         JoinedBy (now (first .entry)) (now (second .entry)) (now (out .entry)) r (now (out .exit)) ⌝ }
 {
-    match table::check(first) {
+    match checking::check(first) {
         Verdict::BadTable => Joining::BadTable { which: 1 },
         Verdict::Taken => on_first(first, second, out),
     }
@@ -42,7 +42,7 @@ fn on_first(first: &[u8], second: &[u8], out: &mut [u8]) -> Joining
     ensures { λ r. ⌜
         JoinedBy (now (first .entry)) (now (second .entry)) (now (out .entry)) r (now (out .exit)) ⌝ }
 {
-    match table::check(second) {
+    match checking::check(second) {
         Verdict::BadTable => Joining::BadTable { which: 2 },
         Verdict::Taken => on_both(first, second, out),
     }

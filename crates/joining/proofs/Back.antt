@@ -15,7 +15,7 @@ use Rattle.meaning.specs.Table.{Class, unused, call, return, internal, code, Ta
 use Rattle.meaning.specs.Table.{GoodSet, Good}
 use Rattle.meaning.specs.Runs.{said}
 use Rattle.meaning.specs.Joining.{fileSize}
-use Rattle.table.specs.Sets.{members}
+use Rattle.sets.specs.Sets.{members}
 use Rattle.table.specs.File.{byte, two, eight, rowCount, rowStart, wordsLength, wordOf, rowAt, classOf, classAt}
 use Rattle.table.specs.File.{tableOf}
 use Rattle.table.proofs.Marks.{class-at}

@@ -11,8 +11,8 @@ use Rattle.words.specs.Order.{Rises}
 use Rattle.words.proofs.Order.{first-less}
 use Rattle.words.proofs.Lists.{below-or}
 use Rattle.meaning.specs.Table.{GoodSet}
-use Rattle.table.specs.Sets.{membersFrom, members}
-use Rattle.table.proofs.Members.{none}
+use Rattle.sets.specs.Sets.{membersFrom, members}
+use Rattle.sets.proofs.Members.{none}
 use Rattle.joining.specs.Laid.{littleEndian, setOf}
 
 -- the number that bytes are

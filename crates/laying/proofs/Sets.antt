@@ -12,10 +12,10 @@ use Rattle.words.specs.Order.{Rises}
 use Rattle.words.proofs.Order.{first-less}
 use Rattle.meaning.specs.Table.{GoodSet}
 use Rattle.meaning.specs.Joining.{pair, pairsOf}
-use Rattle.table.specs.Sets.{members}
+use Rattle.sets.specs.Sets.{members}
+use Rattle.sets.proofs.Members.{none, members-rise, members-below, members-same}
 use Rattle.table.specs.File.{byte, eight, tableOf}
 use Rattle.table.specs.Good.{first as edition, Good}
-use Rattle.table.proofs.Members.{none, members-rise, members-below, members-same}
 use Rattle.table.proofs.Stands.{starting-of}
 use Rattle.joining.specs.Laid.{setOf}
 use Rattle.joining.proofs.Digits.{set-below, set-members}

@@ -8,7 +8,7 @@ use Rattle.words.specs.Words.{Word}
 use Rattle.meaning.specs.Table.{Row, Table, GoodSet}
 use Rattle.meaning.specs.Runs.{said}
 use Rattle.meaning.specs.Joining.{pairsOf}
-use Rattle.table.specs.Sets.{members}
+use Rattle.sets.specs.Sets.{members}
 use Rattle.table.specs.File.{tableOf}
 use Rattle.table.specs.Good.{first as edition, Good}
 use Rattle.joining.specs.Laid.{entryBytes, setBytes, fileOf}

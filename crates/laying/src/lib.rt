@@ -1,7 +1,6 @@
 // The file of the joined table, part after part. Each function puts its part from a place on, where there is room for
 // it, and answers the place after it.
 use shelf::ROOM;
-use table::sets;
 use words::put_byte;
 use words::put_bytes;
 ghost use mathlib.Core.Path.{_≡_};
@@ -11,7 +10,7 @@ ghost use lib.ListN.{length};
 ghost use Rattle.words.specs.Calls.{Room, Appended};
 ghost use Rattle.meaning.specs.Runs.{said};
 ghost use Rattle.meaning.specs.Joining.{pairsOf};
-ghost use Rattle.table.specs.Sets.{members};
+ghost use Rattle.sets.specs.Sets.{members};
 ghost use Rattle.table.specs.File.{tableOf};
 ghost use Rattle.joining.specs.Laid.{littleEndian, entryBytes, setOf, rowBytes, rowsBytes};
 ghost use Rattle.laying.specs.Written.{keyRow, rowsIn, pairedFile, headOf, entriesBytes, setsBytes};

@@ -20,7 +20,8 @@ use Rattle.meaning.specs.Answers.{linksCap, Moment, opened}
 use Rattle.meaning.proofs.Living.{Reaches, living-exact, begun-count as living-count}
 use Rattle.table.specs.File.{tableOf}
 use Rattle.table.specs.Good.{first, Good}
-use Rattle.table.proofs.Told.{told-taken, told-bad, judged-unique}
+use Rattle.table.proofs.Told.{judged-unique}
+use Rattle.checking.proofs.Told.{told-taken, told-bad}
 use Rattle.table.proofs.Stands.{starting-of}
 use Rattle.standing.specs.Sessions.{Entry, Sound, trails, stands, starts, started, beginning}
 use Rattle.standing.specs.Bytes.{pieceRoom, sessionOf, linkBytes, bytesOf, SoundBytes}

@@ -2,9 +2,8 @@
 use places::SIZE;
 use places::add_start;
 use places::clear;
-use table::sets;
 ghost use mathlib.Core.Path.{_≡_};
-ghost use Rattle.table.specs.Sets.{members};
+ghost use Rattle.sets.specs.Sets.{members};
 ghost use Rattle.standing.specs.Sessions.{started};
 ghost use Rattle.standing.specs.Bytes.{bytesOf};
 ghost use Rattle.session.specs.Calls.{Begun};
@@ -19,14 +18,14 @@ pub enum Opening {
 pub fn begin(file: &[u8], session: &mut [u8; SIZE]) -> Opening
     ensures { λ r. ⌜ Begun (now (file .entry)) (now (session .entry)) r (now (session .exit)) ⌝ }
 {
-    match table::check(file) {
-        table::Verdict::Taken => {
+    match checking::check(file) {
+        checking::Verdict::Taken => {
             let set = table::starting_set(file);
             start(session, set);
             let states = sets::size(set);
             Opening::Taken { states }
         }
-        table::Verdict::BadTable => Opening::BadTable,
+        checking::Verdict::BadTable => Opening::BadTable,
     }
 }
 

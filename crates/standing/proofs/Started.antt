@@ -12,8 +12,8 @@ use lib.ListN.{List·getD-map, List·getD-append, List·getD-eq-default, getD-re
 use lib.Seq.{ext-getD, getD-set-same, getD-set-other, getD-at, length-take-le, take-suc, take-all}
 use Rattle.words.proofs.Lists.{below-or}
 use Rattle.meaning.specs.Answers.{linksCap}
-use Rattle.table.specs.Sets.{members}
-use Rattle.table.proofs.Members.{members-le, Visit, visit-start, visit-done, Turn}
+use Rattle.sets.specs.Sets.{members}
+use Rattle.sets.proofs.Members.{members-le, Visit, visit-start, visit-done, Turn}
 use Rattle.standing.specs.Sessions.{starts, started}
 use Rattle.standing.specs.Bytes.{linkStart, size, linkBytes, entryOf, byteOf, bytesOf}
 use Rattle.standing.proofs.Encoded.{byte-of, whole-of, getD-zeros}

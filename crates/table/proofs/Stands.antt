@@ -16,10 +16,10 @@ use Rattle.words.specs.Order.{Less, Rises}
 use Rattle.words.proofs.Lists.{upTo-out, length-upTo, getD-byte}
 use Rattle.words.proofs.Order.{less-trans, rises-append}
 use Rattle.meaning.specs.Table.{rowKey, Row, GoodSet, GoodRow, Good as GoodTable}
-use Rattle.table.specs.Sets.{members}
+use Rattle.sets.specs.Sets.{members}
 use Rattle.table.specs.File.{byte, two, eight, rowCount, rowStart, wordsStart, rowAt, tableOf}
 use Rattle.table.specs.Good.{Edition, first, Good, Rows}
-use Rattle.table.proofs.Members.{members-rise, members-below, members-some}
+use Rattle.sets.proofs.Members.{members-rise, members-below, members-some}
 
 -- what stands in a part of a list stands in it
 take-among : {b : ℕ} (n : ℕ) (l : List ℕ) → b among take n l → b among l

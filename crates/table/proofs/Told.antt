@@ -1,4 +1,4 @@
--- What `check` told, and that it, `class_of` and `first_row` can tell one thing only. Assumes nothing.
+-- What is judged of a file is one thing only, and so is what `class_of` and `first_row` tell. Assumes nothing.
 use mathlib.Core.Path.{_≡_, refl, sym, _∙_}
 use mathlib.Core.Bool.{Bool, true, false}
 use mathlib.Core.Logic.{_⊎_, inl, inr}
@@ -11,21 +11,11 @@ use borrow.Author.Tests.{eqb-true, eqb-false}
 use mathlib.Mathlib.Logic.Function.Defs.{LeftInverse·injective}
 use Rattle.meaning.specs.Table.{Class as Kind, unused, call, return, internal}
 use Rattle.table.specs.Good.{first, Good}
-use Rattle.table.specs.Calls.{numberOf, Judged, Checked, meant, FirstRow}
-use Rattle.table.specs.declared.Verdict.{Verdict}
-use Rattle.table.specs.declared.Verdict.the-variants.{Taken, BadTable}
+use Rattle.table.specs.Calls.{Judged, meant, FirstRow}
 use Rattle.table.specs.declared.read.Class.{Class}
 use Rattle.table.specs.declared.read.Class.the-variants.{Unused, Call, Return, Internal}
 
-pub told-taken : (file : List ℕ) → Good first file → Checked file Taken
-told-taken file g =
-    record { good = (λ e. g, λ h. refl); bad = (λ e. absurd (omega arith), λ f. absurd (f g)) }
-
-pub told-bad : (file : List ℕ) → (Good first file → ⊥) → Checked file BadTable
-told-bad file f =
-    record { good = (λ e. absurd (omega arith), λ g. absurd (f g)); bad = (λ e. f, λ h. refl) }
-
--- two numbers that meet the promise of `check` on one file are the same, and so are two answers
+-- two numbers that meet the promise of `check` on one file are the same
 pub judged-unique : {file : List ℕ} {m n : ℕ} → Judged file m → Judged file n → m ≡ n
 judged-unique {file} {m} {n} a b = go (eqb m 0) refl
   where
@@ -34,15 +24,6 @@ judged-unique {file} {m} {n} a b = go (eqb m 0) refl
     go false e =
         let bad : Good first file → ⊥ = λ g. eqb-false m 0 e (a .good .1 g) in
         a .bad .1 bad ∙ sym (b .bad .1 bad)
-
-pub checked-unique : (file : List ℕ) (r q : Verdict) → Checked file r → Checked file q → r ≡ q
-checked-unique file r q c d = one r q (judged-unique c d)
-  where
-    one : (r q : Verdict) → numberOf r ≡ numberOf q → r ≡ q
-    one Taken Taken e = refl
-    one Taken BadTable e = absurd (omega arith)
-    one BadTable Taken e = absurd (omega arith)
-    one BadTable BadTable e = refl
 
 -- so are two answers of `class_of`,
 pub meant-unique : (r q : Class) → meant r ≡ meant q → r ≡ q

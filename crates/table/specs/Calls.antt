@@ -7,23 +7,13 @@ use lib.ListN.{length}
 use Rattle.meaning.specs.Table.{Class as Kind, unused, call, return, internal, Row}
 use Rattle.table.specs.File.{byte, two, rowCount, rowStart, wordsStart, rowAt}
 use Rattle.table.specs.Good.{first, Good}
-use Rattle.table.specs.declared.Verdict.{Verdict}
-use Rattle.table.specs.declared.Verdict.the-variants.{Taken, BadTable}
 use Rattle.table.specs.declared.read.Class.{Class}
 use Rattle.table.specs.declared.read.Class.the-variants.{Unused, Call, Return, Internal}
-
--- "Numbers given back": 0 Taken, 1 BadTable
-abbrev pub numberOf : Verdict → ℕ
-numberOf Taken = 0
-numberOf BadTable = 1
 
 -- "BadTable: the file breaks a rule above"
 pub record Judged (file : List ℕ) (number : ℕ) : Type 0 where
   pub good : (number ≡ 0) ↔ Good first file
   pub bad : (number ≡ 1) ↔ (Good first file → ⊥)
-
-abbrev pub Checked : List ℕ → Verdict → Type 0
-Checked file r = Judged file (numberOf r)
 
 -- the class that a variant stands for
 abbrev pub meant : Class → Kind

@@ -7,7 +7,7 @@ use lib.ListN.{getD, take, drop}
 use Rattle.words.specs.Lists.{upTo}
 use Rattle.words.specs.Words.{Word}
 use Rattle.meaning.specs.Table.{Class, unused, call, return, internal, Row, Table}
-use Rattle.table.specs.Sets.{members}
+use Rattle.sets.specs.Sets.{members}
 
 -- "numbers little-endian"
 abbrev pub byte : List ℕ → ℕ → ℕ

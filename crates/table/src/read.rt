@@ -4,10 +4,10 @@ use crate::load::load_two;
 use words::wide;
 ghost use mathlib.Core.Path.{_≡_};
 ghost use Prim.Native.Nat.{_<_};
-ghost use Rattle.table.specs.File.{rowCount, rowAt, tableOf};
-ghost use Rattle.table.specs.Sets.{members};
+ghost use Rattle.table.specs.File.{rowCount, rowAt, wordOf, tableOf};
+ghost use Rattle.sets.specs.Sets.{members};
 ghost use Rattle.table.specs.Good.{first, Good};
-ghost use Rattle.table.specs.Calls.{meant, FirstRow};
+ghost use Rattle.table.specs.Calls.{meant, WordIn, FirstRow};
 
 pub fn states(file: &[u8]) -> usize
     requires { ⌜ Good first (now file) ⌝ }
@@ -108,6 +108,17 @@ pub fn row_marker(file: &[u8], i: usize) -> usize
     ensures { λ r. ⌜ r ≡ rowAt (now (file .entry)) i .marker ⌝ }
 {
     wide(file[300 + 8 * i + 3])
+}
+
+// A row's word, as a part of the lent file.
+pub fn row_word(file: &[u8], i: usize) -> &[u8]
+    requires { ⌜ WordIn (now file) i ⌝ }
+    ensures { λ r. ⌜ now r ≡ wordOf (now (file .entry)) i ⌝ }
+{
+    let at = 300 + 8 * i;
+    let start = 300 + 8 * (load_two(file, 22) / 8) + load_two(file, at + 4);
+    let end = start + wide(file[at + 6]);
+    &file[start..end]
 }
 
 // The place of the first row with this symbol or a higher one: rows rise by symbol, so that halving finds it.

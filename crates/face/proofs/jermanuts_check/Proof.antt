@@ -1,6 +1,6 @@
 -- `face::jermanuts_check` meets its contract. Assumes nothing.
 use mathlib.Core.Path.{sym, ap}
-use Rattle.table.specs.Calls.{numberOf}
+use Rattle.checking.specs.Calls.{numberOf}
 use Rattle.face.proofs.Said.{said-checked}
 use borrow.Author.Needs.{needs}
 use Rattle.face.proofs.jermanuts_check.Statement.{statement}

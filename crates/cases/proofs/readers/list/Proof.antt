@@ -1,7 +1,7 @@
 -- `cases::readers::list` meets its contract: a file that `check` takes is good. Assumes nothing.
 use mathlib.Core.Path.{ap}
 use borrow.Author.Needs.{needs}
-use Rattle.table.specs.Calls.{numberOf}
+use Rattle.checking.specs.Calls.{numberOf}
 use Rattle.cases.proofs.readers.list.Statement.{statement}
 use Rattle.cases.proofs.readers.list.Tie as tie
 

@@ -1,6 +1,6 @@
 -- `cases::sessions::judged` meets its contract: a file that `check` takes is good. Assumes nothing.
 use mathlib.Core.Path.{ap}
-use Rattle.table.specs.Calls.{numberOf}
+use Rattle.checking.specs.Calls.{numberOf}
 use borrow.Author.Needs.{needs}
 use Rattle.cases.proofs.sessions.judged.Statement.{statement}
 use Rattle.cases.proofs.sessions.judged.Tie as tie

@@ -2,7 +2,7 @@
 use mathlib.Core.Path.{ap}
 use native.Mathlib.Omega.{arith}
 use Rattle.words.proofs.Lists.{byte-getD}
-use Rattle.table.specs.Calls.{numberOf}
+use Rattle.checking.specs.Calls.{numberOf}
 use Rattle.ending.proofs.Closing.{ended-bad-table}
 use borrow.Author.Needs.{needs}
 use Rattle.ending.proofs.finishing.finish.Statement.{statement}

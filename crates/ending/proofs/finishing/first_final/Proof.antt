@@ -5,7 +5,7 @@ use Prim.Native.Nat.{ℕ, _-_, _≤_, _<_}
 use native.Mathlib.Omega.{arith}
 use borrow.Author.Count.{below-more}
 use borrow.Author.Needs.{needs}
-use Rattle.table.specs.Sets.{isIn}
+use Rattle.sets.specs.Sets.{isIn}
 use Rattle.ending.specs.Finishing.{finalAt}
 use Rattle.ending.proofs.finishing.first_final.Statement.{statement}
 use Rattle.ending.proofs.finishing.first_final.Tie as tie

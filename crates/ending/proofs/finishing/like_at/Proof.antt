@@ -4,7 +4,7 @@ use mathlib.Core.Bool.{true≢false}
 use native.Mathlib.Omega.{arith}
 use borrow.Author.Needs.{needs}
 use borrow.Author.Tests.{not-true, not-false}
-use Rattle.table.specs.Sets.{isIn}
+use Rattle.sets.specs.Sets.{isIn}
 use Rattle.words.proofs.Exact.{yes-exact, exact-as}
 use Rattle.ending.specs.Finishing.{finalAt}
 use Rattle.ending.proofs.finishing.like_at.Statement.{statement}

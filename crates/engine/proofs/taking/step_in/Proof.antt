@@ -2,7 +2,7 @@
 use mathlib.Core.Path.{ap}
 use native.Mathlib.Omega.{arith}
 use Rattle.words.proofs.Lists.{byte-getD}
-use Rattle.table.specs.Calls.{numberOf}
+use Rattle.checking.specs.Calls.{numberOf}
 use Rattle.stepping.proofs.Told.{told-bad-table}
 use borrow.Author.Needs.{needs}
 use Rattle.engine.proofs.taking.step_in.Statement.{statement}

@@ -2,7 +2,7 @@
 use mathlib.Core.Path.{ap}
 use native.Mathlib.Omega.{arith}
 use Rattle.words.proofs.Lists.{byte-getD}
-use Rattle.table.specs.Calls.{numberOf}
+use Rattle.checking.specs.Calls.{numberOf}
 use Rattle.joining.proofs.Told.{joins-bad-second}
 use borrow.Author.Needs.{needs}
 use Rattle.joiner.proofs.hops.on_first.Statement.{statement}

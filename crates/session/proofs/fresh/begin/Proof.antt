@@ -1,7 +1,7 @@
 -- `session::fresh::begin` meets its contract: the session is that of the table's starting states. Assumes nothing.
 use mathlib.Core.Path.{ap}
 use borrow.Author.Needs.{needs}
-use Rattle.table.specs.Calls.{numberOf}
+use Rattle.checking.specs.Calls.{numberOf}
 use Rattle.session.proofs.Began.{begun-taken, begun-bad}
 use Rattle.session.proofs.fresh.begin.Statement.{statement}
 use Rattle.session.proofs.fresh.begin.Tie as tie

@@ -1,6 +1,6 @@
 -- `table::read::starting_set` meets its contract. Assumes nothing.
 use mathlib.Core.Path.{ap}
-use Rattle.table.specs.Sets.{members}
+use Rattle.sets.specs.Sets.{members}
 use Rattle.table.specs.File.{tableOf}
 use borrow.Author.Needs.{needs}
 use Rattle.table.proofs.read.starting_set.Statement.{statement}

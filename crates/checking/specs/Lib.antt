@@ -1,0 +1,2 @@
+-- What the call `check` promises.
+pub mod Calls

@@ -1,0 +1,2 @@
+-- What follows of sets of states.
+pub mod Members

@@ -1,0 +1,2 @@
+-- What must be believed of sets of states.
+pub mod Sets
