@@ -11,3 +11,4 @@ pub mod Appended
 pub mod Pushing
 pub mod Beside
 pub mod Loaded
+pub mod Ranks

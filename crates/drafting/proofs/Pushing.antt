@@ -34,7 +34,7 @@ other-slot : {work order : List ℕ} {n : ℕ} → Drafts work order n → (i j 
 other-slot d i j li lj ne e =
     ⊎-elim (λ h. d .once j i h li e) (λ h. d .once i j h lj (sym e)) (apart j i ne)
 
-same-or : (P : ℕ → Type 0) (i : ℕ) → P i → ((j : ℕ) → (j ≡ i → ⊥) → P j) → (j : ℕ) → P j
+pub same-or : (P : ℕ → Type 0) (i : ℕ) → P i → ((j : ℕ) → (j ≡ i → ⊥) → P j) → (j : ℕ) → P j
 same-or P i this others j = go (below-or i j) (below-or j i)
   where
     go : (i < j) ⊎ (j ≤ i) → (j < i) ⊎ (i ≤ j) → P j

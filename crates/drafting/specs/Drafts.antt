@@ -16,8 +16,8 @@ use Rattle.meaning.specs.Answers.{linksCap}
 use Rattle.table.specs.File.{byte, two}
 use Rattle.standing.specs.Sessions.{Entry, entry}
 use Rattle.standing.specs.Soundly.{piecesOn}
-use Rattle.standing.specs.Bytes.{linkFrom, linkAt, NoneBelow, sessionOf}
-use Rattle.standing.specs.Numbers.{seatAt, footFrom, keyFrom}
+use Rattle.standing.specs.Bytes.{countOf, linkFrom, linkAt, NoneBelow, sessionOf}
+use Rattle.standing.specs.Numbers.{seatAt, seatFrom, footFrom, keyFrom, startOf, levelOf}
 use Rattle.stepping.specs.Stepping.{seat, lower, shake, base, push, entryKey, clashes}
 use Rattle.drafting.specs.declared.lower.Shaken.{Shaken}
 use Rattle.drafting.specs.declared.lower.Shaken.the-variants.{Full, Drafted}
@@ -136,10 +136,27 @@ pub record OneMore (e : Entry) (work order : List ℕ) (n : ℕ) (work′ order�
 abbrev pub shakenOver : List ℕ → ℕ → List Entry → List Entry
 shakenOver session d E = shake d (lower d (sessionOf session .entries) ++ E)
 
+-- the levels of a session's links rise
+abbrev pub LevelsRise : List ℕ → Type 0
+LevelsRise session =
+    (j k : ℕ) → j ≤ k → k < countOf session → linkAt session j .level ≤ linkAt session k .level
+
+-- the level of a draft; each draft stands between the end of the level above its own and that of its own
+abbrev pub levelIn : List ℕ → List ℕ → ℕ → ℕ
+levelIn work order i = linkFrom work (slotStart (slotOf order i)) .level
+
+pub record Ranked (work order : List ℕ) (n : ℕ) (ends : List ℕ) : Type 0 where
+  pub long : length ends ≡ 35
+  pub low : (i : ℕ) → i < n → levelIn work order i ≤ 32
+  pub within : (l : ℕ) → startOf ends l ≤ n
+  pub after : (i : ℕ) → i < n → startOf ends (levelIn work order i + 1) ≤ i
+  pub before : (i : ℕ) → i < n → i < startOf ends (levelIn work order i)
+
 -- what shaking answers of what is left: it is drafted, or has more than there are slots for
-abbrev pub ShakenTo : List Entry → List ℕ → List ℕ → Shaken → Type 0
-ShakenTo E work order Full = linksCap < length E
-ShakenTo E work order (Drafted n) = Drafts work order n × (draftsOf work order n ≡ E)
+abbrev pub ShakenTo : List Entry → List ℕ → List ℕ → List ℕ → Shaken → Type 0
+ShakenTo E work order ends Full = linksCap < length E
+ShakenTo E work order ends (Drafted n) =
+    Drafts work order n × (draftsOf work order n ≡ E) × Ranked work order n ends
 
 -- the place of a number among the drafts: those before it have a greater one
 pub record Place (work order : List ℕ) (n key at : ℕ) : Type 0 where
@@ -198,6 +215,19 @@ pub record Holds (work : List ℕ) (s : ℕ) : Type 0 where
 -- what a draft stands on, as a number; and a test for the drafted links with one foot
 abbrev pub footOf : List ℕ → List ℕ → ℕ → ℕ
 footOf work order i = footFrom work (slotStart (slotOf order i))
+
+abbrev pub seatOf : List ℕ → List ℕ → ℕ → ℕ
+seatOf work order i = seatFrom work (slotStart (slotOf order i))
+
+-- those of the first `n` drafts with one foot stand between the ends of two levels; none of them before a place has it
+pub record OneLevel (work order : List ℕ) (n : ℕ) (ends : List ℕ) (foot : ℕ) : Type 0 where
+  pub low : levelOf foot < 34
+  pub within : startOf ends (levelOf foot) ≤ n
+  pub after : (k : ℕ) → k < n → footOf work order k ≡ foot → startOf ends (levelOf foot + 1) ≤ k
+  pub before : (k : ℕ) → k < n → footOf work order k ≡ foot → k < startOf ends (levelOf foot)
+
+abbrev pub NoFoot : List ℕ → List ℕ → ℕ → ℕ → ℕ → Type 0
+NoFoot work order from n foot = (k : ℕ) → k < from → k < n → footOf work order k ≡ foot → ⊥
 
 abbrev pub PicksFoot : List ℕ → List ℕ → ℕ → ℕ → (Link → Bool) → Type 0
 PicksFoot work order n foot test =

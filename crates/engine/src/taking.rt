@@ -8,10 +8,12 @@ use drafting::slots;
 use drafting::slots::WORK;
 use growing::growth;
 use places::SIZE;
+use session::levels::LEVELS;
 ghost use Rattle.words.specs.Words.{Bytes};
 ghost use Rattle.table.specs.Good.{first, Good};
 ghost use Rattle.ending.specs.Finishing.{Ready};
 ghost use Rattle.engine.specs.Calls.{Answered};
+ghost use Rattle.drafting.specs.Drafts.{Ranked};
 ghost use Rattle.engine.specs.Tests.{Opened, Grew, Left, Settled};
 
 // What `step` answers.
@@ -161,13 +163,14 @@ fn on_grown(
         Answered (now (file .entry)) (now (session .entry)) symbol (now (out .entry)) r
         (now (session .exit)) (now (out .exit)) ⌝ }
 {
-    match lower::shake(session, depth, work, order, count) {
+    let mut ends = [0u8; LEVELS];
+    match lower::shake(session, depth, work, order, &mut ends, count) {
         lower::Shaken::Full => Answer::Crowded,
         lower::Shaken::Drafted { count: n } => {
             if clash {
                 return Answer::Conflict;
             }
-            on_shaken(file, session, symbol, depth, out, work, order, n)
+            on_shaken(file, session, symbol, depth, out, work, order, n, &ends)
         }
     }
 }
@@ -182,19 +185,21 @@ fn on_shaken(
     work: &mut [u8; WORK],
     order: &[u8; 64],
     n: usize,
+    ends: &[u8; LEVELS],
 ) -> Answer
     requires { ⌜ Left (now file) (now session) symbol depth (now work) (now order) n ⌝ }
+    requires { ⌜ Ranked (now work) (now order) n (now ends) ⌝ }
     ensures { λ r. ⌜
         Answered (now (file .entry)) (now (session .entry)) symbol (now (out .entry)) r
         (now (session .exit)) (now (out .exit)) ⌝ }
 {
     let mut handed = [0usize; 64];
-    settling::push(work, order, n, &mut handed);
-    let sent = settling::common_on(work, order, n, 0);
+    settling::push(work, order, n, ends, &mut handed);
+    let sent = settling::common_on(work, order, n, ends, 0);
     let slot = sent.slot;
     let long = sent.length;
     let mut cuts = [0usize; 64];
-    cutting::cut_all(work, order, n, &handed, long, &mut cuts);
+    cutting::cut_all(work, order, n, ends, &handed, long, &mut cuts);
     on_settled(
         file,
         session,
@@ -204,6 +209,7 @@ fn on_shaken(
         work,
         order,
         n,
+        ends,
         &cuts,
         slot,
         long,
@@ -220,17 +226,19 @@ fn on_settled(
     work: &[u8; WORK],
     order: &[u8; 64],
     n: usize,
+    ends: &[u8; LEVELS],
     cuts: &[usize; 64],
     slot: usize,
     long: usize,
 ) -> Answer
     requires { ⌜
         Settled (now file) (now session) symbol depth (now work) (now order) n (now cuts) slot long ⌝ }
+    requires { ⌜ Ranked (now work) (now order) n (now ends) ⌝ }
     ensures { λ r. ⌜
         Answered (now (file .entry)) (now (session .entry)) symbol (now (out .entry)) r
         (now (session .exit)) (now (out .exit)) ⌝ }
 {
-    if table::waiting_cap(file) < cutting::longest(work, order, n, cuts) {
+    if table::waiting_cap(file) < cutting::longest(work, order, n, ends, cuts) {
         return Answer::Backlog;
     }
     if out.len() < long {

@@ -12,9 +12,9 @@ use Rattle.words.proofs.Lists.{below-or, getD-byte}
 use Rattle.meaning.specs.Table.{Table}
 use Rattle.table.specs.File.{byte, tableOf}
 use Rattle.table.specs.Good.{first, Good}
-use Rattle.standing.specs.Bytes.{linkStart, countOf, linkAt}
-use Rattle.standing.specs.Numbers.{Lent, seatAt, footAt, keyAt, Links, startOf, levelOf, Levelled, Common}
-use Rattle.standing.specs.Numbers.{Heaviest}
+use Rattle.standing.specs.Bytes.{linkStart, countOf, linkFrom, linkAt}
+use Rattle.standing.specs.Numbers.{Lent, seatFrom, footFrom, seatAt, footAt, keyAt, Links, startOf, levelOf}
+use Rattle.standing.specs.Numbers.{Levelled, Common, Heaviest}
 use Rattle.standing.proofs.Encoded.{getD-zeros}
 use Rattle.standing.proofs.Passed.{Heads}
 use Rattle.standing.proofs.ByPlace.{all-rise}
@@ -23,16 +23,16 @@ use Rattle.standing.proofs.Started.{same-or}
 
 module _ (bytes : List ℕ) (small : Bytes bytes) where
   -- feet and seats say the level
-  pub foot-level : (j : ℕ) → levelOf (footAt bytes j) ≡ linkAt bytes j .level
-  foot-level j =
-      let s = getD-byte bytes small (linkStart j + 3) in
-      let m = getD-byte bytes small (linkStart j + 4) in
+  pub foot-level : (k : ℕ) → levelOf (footFrom bytes k) ≡ linkFrom bytes k .level
+  foot-level k =
+      let s = getD-byte bytes small (k + 3) in
+      let m = getD-byte bytes small (k + 4) in
       omega arith
 
-  pub seat-level : (j : ℕ) → levelOf (seatAt bytes j) ≡ linkAt bytes j .level + 1
-  seat-level j =
-      let s = getD-byte bytes small (linkStart j + 1) in
-      let m = getD-byte bytes small (linkStart j + 2) in
+  pub seat-level : (k : ℕ) → levelOf (seatFrom bytes k) ≡ linkFrom bytes k .level + 1
+  seat-level k =
+      let s = getD-byte bytes small (k + 1) in
+      let m = getD-byte bytes small (k + 2) in
       omega arith
 
   -- levels rise as links do
@@ -63,10 +63,10 @@ found-start bytes =
     }
 
 -- one place set: what stands there and elsewhere
-abbrev At : List ℕ → ℕ → ℕ → ℕ → Type 0
+abbrev pub At : List ℕ → ℕ → ℕ → ℕ → Type 0
 At l p v q = ((q ≡ p) × (getD (set l p v) q 0 ≡ v)) ⊎ ((q ≡ p → ⊥) × (getD (set l p v) q 0 ≡ getD l q 0))
 
-set-at : (l : List ℕ) (p v q : ℕ) → p < length l → At l p v q
+pub set-at : (l : List ℕ) (p v q : ℕ) → p < length l → At l p v q
 set-at l p v q lt = go (same-or q p)
   where
     go : (q ≡ p) ⊎ (q ≡ p → ⊥) → At l p v q
@@ -125,7 +125,7 @@ found-all {bytes = bytes} links lent few deep e f =
 module _ {bytes starts : List ℕ} (v : Levelled bytes starts) (foot : ℕ) where
   -- those with one foot stand between two starts
   on-level : (k : ℕ) → footAt bytes k ≡ foot → linkAt bytes k .level ≡ levelOf foot
-  on-level k e = sym (foot-level bytes (v .lent .small) k) ∙ ap levelOf e
+  on-level k e = sym (foot-level bytes (v .lent .small) (linkStart k)) ∙ ap levelOf e
 
   pub foot-after : (k : ℕ) → k < countOf bytes → footAt bytes k ≡ foot → startOf starts (levelOf foot) ≤ k
   foot-after k l e = subst (λ (m : ℕ). startOf starts m ≤ k) (on-level k e) (v .after k l)
@@ -135,7 +135,7 @@ module _ {bytes starts : List ℕ} (v : Levelled bytes starts) (foot : ℕ) wher
 
   -- and those that they stand on between the two before
   under-level : (k : ℕ) → seatAt bytes k ≡ foot → linkAt bytes k .level + 1 ≡ levelOf foot
-  under-level k e = sym (seat-level bytes (v .lent .small) k) ∙ ap levelOf e
+  under-level k e = sym (seat-level bytes (v .lent .small) (linkStart k)) ∙ ap levelOf e
 
   pub seat-after : (k : ℕ) → k < countOf bytes → seatAt bytes k ≡ foot → startOf starts (levelOf foot - 1) ≤ k
   seat-after k l e =
@@ -197,7 +197,7 @@ module _ {bytes starts : List ℕ} (v : Levelled bytes starts) {foot : ℕ} wher
 -- what stands on a link comes after it, at a level that has a start and an end
 module _ {bytes starts : List ℕ} (v : Levelled bytes starts) (i : ℕ) (l : i < countOf bytes) where
   over : {foot : ℕ} → foot ≡ seatAt bytes i → levelOf foot ≡ linkAt bytes i .level + 1
-  over e = ap levelOf e ∙ seat-level bytes (v .lent .small) i
+  over e = ap levelOf e ∙ seat-level bytes (v .lent .small) (linkStart i)
 
   pub seat-past : {foot : ℕ} → foot ≡ seatAt bytes i → i < startOf starts (levelOf foot)
   seat-past e = subst (λ (m : ℕ). i < startOf starts m) (sym (over e)) (v .before i l)

@@ -1,6 +1,6 @@
 // Sessions: which bytes are sound for a table, and those to begin with. Nothing outside the lent bytes is read or written.
 mod fresh;
-mod levels;
+pub mod levels;
 mod rules;
 mod unused;
 mod weigh;

@@ -70,7 +70,7 @@ startOf starts l = getD starts l 0
 abbrev pub levelOf : ℕ → ℕ
 levelOf foot = foot / 65536
 
--- each link stands between the start of its level and that of the next; no level is over 32, and nothing is below level 0
+-- each link stands between the start of its level and that of the next; no level is over 32, nothing is below level 0
 pub record Levelled (bytes starts : List ℕ) : Type 0 where
   pub lent : Lent bytes
   pub few : countOf bytes ≤ 64

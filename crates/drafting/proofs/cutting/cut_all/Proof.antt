@@ -11,16 +11,16 @@ use Rattle.drafting.proofs.cutting.cut_all.Statement.{statement}
 use Rattle.drafting.proofs.cutting.cut_all.Tie as tie
 
 abbrev Inv-loop : tie.InvT-loop
-Inv-loop work order n handed sent all₀ i₀ all i = (i ≤ n) × (length all ≡ 64) × CutTo work order n all i
+Inv-loop work order n ends handed sent all₀ i₀ all i = (i ≤ n) × (length all ≡ 64) × CutTo work order n all i
 
 abbrev μ-loop : tie.MeasureT-loop
-μ-loop work order n handed sent all₀ i₀ all i = n - i
+μ-loop work order n ends handed sent all₀ i₀ all i = n - i
 
 loop-holds : tie.Need-loop-holds Inv-loop μ-loop
 loop-holds c = (omega arith, omega arith, cut-start _ _ _ _)
 
 cut-by-requires : tie.Need-cut-by-requires Inv-loop μ-loop
-cut-by-requires c κs = (c .before .before .before .pre, omega arith)
+cut-by-requires c κs = let pre = c .before .before .before .pre in ((pre .0, omega arith), pre .1)
 
 mul-all : tie.Need-mul-all Inv-loop μ-loop
 mul-all c = search needs
@@ -38,7 +38,7 @@ loop-again : tie.Need-loop-again Inv-loop μ-loop
 loop-again c =
     let at-loop = c .before .before in
     let inv = at-loop .loop .inv in
-    let few = at-loop .before .before .pre .drafts .few in (
+    let few = at-loop .before .before .pre .0 .drafts .few in (
       omega arith,
       simp length-set (inv .1),
       cut-next _ (inv .2) (omega arith) (c .cut-by .ensures),

@@ -3,15 +3,16 @@ use Prim.Native.Nat.{_-_, _≤_}
 use native.Mathlib.Omega.{arith}
 use Rattle.drafting.specs.Cutting.{CutWeighed}
 use Rattle.drafting.proofs.Loaded.{with-longest, load-start}
+use Rattle.drafting.proofs.Ranks.{on-bottom}
 use borrow.Author.Needs.{needs}
 use Rattle.drafting.proofs.cutting.longest.Statement.{statement}
 use Rattle.drafting.proofs.cutting.longest.Tie as tie
 
 abbrev Inv-loop : tie.InvT-loop
-Inv-loop work order n cuts loads₀ i₀ loads i = (i ≤ n) × CutWeighed work order cuts loads i
+Inv-loop work order n ends cuts loads₀ i₀ loads i = (i ≤ n) × CutWeighed work order cuts loads i
 
 abbrev μ-loop : tie.MeasureT-loop
-μ-loop work order n cuts loads₀ i₀ loads i = n - i
+μ-loop work order n ends cuts loads₀ i₀ loads i = n - i
 
 loop-holds : tie.Need-loop-holds Inv-loop μ-loop
 loop-holds c = (omega arith, load-start _ _ _ _)
@@ -19,7 +20,8 @@ loop-holds c = (omega arith, load-start _ _ _ _)
 weigh-requires : tie.Need-weigh-requires Inv-loop μ-loop
 weigh-requires c κs =
     let at-loop = c .before .before in
-    ((at-loop .before .pre, omega arith), at-loop .loop .inv .1)
+    let pre = at-loop .before .pre in
+    ((pre .0, omega arith), (at-loop .loop .inv .1, pre .1))
 
 add-i : tie.Need-add-i Inv-loop μ-loop
 add-i c = search needs
@@ -31,12 +33,15 @@ loop-again : tie.Need-loop-again Inv-loop μ-loop
 loop-again c = (omega arith, c .weigh .ensures)
 
 most-on-requires : tie.Need-most-on-requires Inv-loop μ-loop
-most-on-requires c κs = (c .before .before .before .pre .drafts, omega arith)
+most-on-requires c κs =
+    let pre = c .before .before .before .pre in
+    let ranked = pre .1 in
+    ((pre .0 .drafts, omega arith, on-bottom (pre .0 .drafts) ranked), (ranked .within _, ranked .within _))
 
 returns : tie.Need-returns Inv-loop μ-loop
 returns c =
     let at-loop = c .before .before .before in
-    with-longest (at-loop .before .pre) (at-loop .loop .inv .1) (omega arith) (c .most-on .ensures)
+    with-longest (at-loop .before .pre .0) (at-loop .loop .inv .1) (omega arith) (c .most-on .ensures)
 
 pub longest-spec : {M : Type 1} → statement M
 longest-spec =

@@ -5,9 +5,10 @@ use Prim.Native.Nat.{ℕ, _+_, _-_}
 use native.Mathlib.Omega.{arith}
 use lib.ListN.{getD}
 use Rattle.standing.specs.Numbers.{seatFrom}
-use Rattle.drafting.specs.Drafts.{slotStart, lengthIn, slotOf}
+use Rattle.drafting.specs.Drafts.{slotStart, lengthIn, slotOf, seatOf}
 use Rattle.drafting.specs.Cutting.{cutLoad}
 use Rattle.drafting.proofs.Loaded.{cut-load-small, with-above, load-next}
+use Rattle.drafting.proofs.Ranks.{on-seat, seat-within}
 use borrow.Author.Needs.{needs}
 use Rattle.drafting.proofs.cutting.weigh.Statement.{statement}
 use Rattle.drafting.proofs.cutting.weigh.Tie as tie
@@ -20,8 +21,24 @@ seat-requires c κs =
     let pre = c .before .before .pre .0 in
     omega (arith, pre .0 .drafts .few, pre .0 .drafts .within _ (pre .1))
 
+seat-of : (c : tie.After-seat) →
+    let args = c .before .before .before .args in
+    c .seat .result ≡ seatOf (args .work .now) (args .order .now) (args .i)
+seat-of c =
+    let after-slot = c .before .before in
+    c .seat .ensures
+    ∙ ap (λ (s : ℕ). seatFrom (after-slot .before .args .work .now) (slotStart s)) (after-slot .slot .ensures .0)
+
 most-on-requires : tie.Need-most-on-requires
-most-on-requires c κs = search needs
+most-on-requires c κs =
+    let after-slot = c .before .before in
+    let pre = after-slot .before .pre .0 in
+    let drafts = pre .0 .drafts in
+    let ranked = after-slot .before .pre .1 .1 in
+    let is = seat-of c in
+    let one = on-seat drafts ranked _ (pre .1) (after-slot .before .args .n) (omega arith) (omega arith) in
+    let within = seat-within drafts ranked _ (pre .1) in
+    ((drafts, omega arith, rw (← is) at one), (rw (← is) at within, ranked .within _))
 
 length-requires : tie.Need-length-requires
 length-requires c κs =
@@ -55,9 +72,8 @@ load c =
     let after-slot = after-most .before .before .before in
     let args = after-slot .before .args in
     let pre = after-slot .before .pre in
-    with-above (pre .0 .0) (args .i) (pre .0 .1) (pre .1)
-    (after-most .before .seat .ensures
-    ∙ ap (λ (s : ℕ). seatFrom (args .work .now) (slotStart s)) (after-slot .slot .ensures .0))
+    with-above (pre .0 .0) (args .i) (pre .0 .1) (pre .1 .0)
+    (seat-of (after-most .before))
     (ap (λ (k : ℕ). k - getD (args .cuts .now) (args .i) 0) (length-of (c .before .before)))
     (after-most .most-on .ensures)
 
@@ -75,7 +91,7 @@ slice-write-all c = search needs
 returns : tie.Need-returns
 returns c =
     let pre = c .before .before .before .before .before .before .before .pre in
-    load-next _ (pre .1) (omega (arith, pre .0 .0 .drafts .few)) (load c)
+    load-next _ (pre .1 .0) (omega (arith, pre .0 .0 .drafts .few)) (load c)
 
 pub weigh-spec : {M : Type 1} → statement M
 weigh-spec =

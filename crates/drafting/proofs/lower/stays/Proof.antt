@@ -1,6 +1,10 @@
 -- `drafting::lower::stays` meets its contract. Assumes nothing.
+use mathlib.Core.Path.{_∙_, ap}
 use native.Mathlib.Omega.{arith}
 use Rattle.words.proofs.Exact.{no-exact, exact-as}
+use Rattle.standing.specs.Numbers.{levelOf}
+use Rattle.session.proofs.Levelled.{seat-level}
+use Rattle.drafting.proofs.Ranks.{one-level}
 use borrow.Author.Needs.{needs}
 use Rattle.drafting.proofs.lower.stays.Statement.{statement}
 use Rattle.drafting.proofs.lower.stays.Tie as tie
@@ -15,7 +19,13 @@ seat-requires : tie.Need-seat-requires
 seat-requires c κs = search needs
 
 carried-requires : tie.Need-carried-requires
-carried-requires c κs = search needs
+carried-requires c κs =
+    let after-level = c .before .before in
+    let pre = after-level .before .pre in
+    let drafts = pre .1 .0 in
+    let ranked = pre .1 .1 in
+    let level = ap levelOf (c .seat .ensures) ∙ seat-level _ (pre .0 .2) _ in
+    (drafts, one-level drafts ranked _ _ (omega arith) (omega (arith, level)) (ranked .within _))
 
 returns-2 : tie.Need-returns-2
 returns-2 c =

@@ -1,6 +1,6 @@
 -- `drafting::settling::first_on` meets its contract: the drafts passed have not the foot. Assumes nothing.
 use mathlib.Core.Path.{_≡_, sym, ap, _∙_}
-use Prim.Native.Nat.{ℕ, _-_, _≤_, _<_}
+use Prim.Native.Nat.{ℕ, _-_, _<_}
 use native.Mathlib.Omega.{arith}
 use borrow.Author.Count.{below-more}
 use borrow.Author.Needs.{needs}
@@ -11,19 +11,19 @@ use Rattle.drafting.proofs.settling.first_on.Statement.{statement}
 use Rattle.drafting.proofs.settling.first_on.Tie as tie
 
 abbrev Inv-loop : tie.InvT-loop
-Inv-loop work order n foot i₀ i = (i ≤ n) × ((k : ℕ) → k < i → footOf work order k ≡ foot → ⊥)
+Inv-loop work order from n foot i₀ i = (k : ℕ) → k < i → k < n → footOf work order k ≡ foot → ⊥
 
 abbrev μ-loop : tie.MeasureT-loop
-μ-loop work order n foot i₀ i = n - i
+μ-loop work order from n foot i₀ i = n - i
 
 loop-holds : tie.Need-loop-holds Inv-loop μ-loop
-loop-holds c = (omega arith, λ k lt. absurd (omega arith))
+loop-holds c = c .pre .1
 
 slot-requires : tie.Need-slot-requires Inv-loop μ-loop
 slot-requires c κs = search needs
 
 foot-requires : tie.Need-foot-requires Inv-loop μ-loop
-foot-requires c κs = holds (c .before .before .before .pre) (omega arith) (c .slot .ensures .0) .within
+foot-requires c κs = holds (c .before .before .before .pre .0) (omega arith) (c .slot .ensures .0) .within
 
 -- the number that is looked at is the draft's foot
 looked : (c : tie.After-foot Inv-loop μ-loop) →
@@ -37,7 +37,7 @@ returns : tie.Need-returns Inv-loop μ-loop
 returns c =
     record {
       within = omega arith;
-      before = c .before .before .before .before .loop .inv .1;
+      before = λ k lt. c .before .before .before .before .loop .inv k lt (omega arith);
       found = λ lt. sym (looked (c .before)) ∙ c .if1 .taken;
     }
 
@@ -48,18 +48,15 @@ loop-less : tie.Need-loop-less Inv-loop μ-loop
 loop-less c = search needs
 
 loop-again : tie.Need-loop-again Inv-loop μ-loop
-loop-again c = (
-  omega arith,
-  below-more _ _ (c .before .before .before .before .loop .inv .1) (λ e. c .if1 .left (looked (c .before) ∙ e)),
-)
+loop-again c =
+    below-more _ _ (c .before .before .before .before .loop .inv) (λ l e. c .if1 .left (looked (c .before) ∙ e))
 
 returns-2 : tie.Need-returns-2 Inv-loop μ-loop
 returns-2 c =
     let at-loop = c .before in
-    let e : at-loop .loop .i ≡ at-loop .before .args .n = omega arith in
     record {
       within = omega arith;
-      before = λ k lt. at-loop .loop .inv .1 k (omega arith);
+      before = λ k lt. at-loop .loop .inv k (omega arith) lt;
       found = λ lt. absurd (omega arith);
     }
 

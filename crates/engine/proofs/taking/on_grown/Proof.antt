@@ -1,13 +1,15 @@
 -- `engine::taking::on_grown` meets its contract: the links of the moved trails are drafted. Assumes nothing.
-use Rattle.engine.proofs.Asked.{grew-level, grew-crowded, grew-conflict, grew-left}
+use Rattle.engine.proofs.Asked.{grew-level, grew-crowded, grew-conflict, grew-left, opened-usable}
+use Rattle.drafting.proofs.Ranks.{opened-shallow}
 use borrow.Author.Needs.{needs}
 use Rattle.engine.proofs.taking.on_grown.Statement.{statement}
 use Rattle.engine.proofs.taking.on_grown.Tie as tie
 
 shake-requires : tie.Need-shake-requires
 shake-requires c κs =
-    let g = c .before .before .before .before .before .pre in
-    ((g .opened .ready .sound .kept, g .drafts), grew-level g)
+    let g = c .before .before .before .before .before .before .pre in
+    let o = g .opened in
+    ((o .ready .sound .kept, g .drafts), (grew-level g, opened-shallow o, opened-usable o .levels))
 
 enum-told : tie.Need-enum-told
 enum-told c = search needs
@@ -19,19 +21,20 @@ returns : tie.Need-returns
 returns c =
     let shook = c .before .before .before .before in
     let told = rw (c .before .before .n .given .1) at (shook .shake .ensures) in
-    grew-conflict (shook .before .before .before .before .before .before .pre) (told .0) (told .1) _ (c .if1 .taken)
+    let g = shook .before .before .before .before .before .before .before .pre in
+    grew-conflict g (told .0) (told .1) _ (c .if1 .taken)
 
 on-shaken-requires : tie.Need-on-shaken-requires
 on-shaken-requires c κs =
-    let shook = c .before .before .before .before .before .before .before .before in
-    let told = rw (c .before .before .before .before .before .before .n .given .1) at (shook .shake .ensures) in
-    let g = shook .before .before .before .before .before .before .pre in
-    grew-left g (told .0) (told .1) (c .before .before .before .before .if1 .left)
+    let shook = c .before .before .before .before .before .before .before .before .before in
+    let told = rw (c .before .before .before .before .before .before .before .n .given .1) at (shook .shake .ensures) in
+    let g = shook .before .before .before .before .before .before .before .pre in
+    (grew-left g (told .0) (told .1) (c .before .before .before .before .before .if1 .left), told .2)
 
 returns-2 : tie.Need-returns-2
 returns-2 c =
     let shook = c .before .before in
-    let g = shook .before .before .before .before .before .before .pre in
+    let g = shook .before .before .before .before .before .before .before .pre in
     grew-crowded g _ (rw (c .enum-told .given .1) at (shook .shake .ensures))
 
 same-length : tie.Need-same-length

@@ -15,10 +15,10 @@ longest-requires : tie.Need-longest-requires
 longest-requires c κs = search needs
 
 returns : tie.Need-returns
-returns c = settled-backlog (c .before .before .before .before .before .pre) _ (omega arith)
+returns c = settled-backlog (c .before .before .before .before .before .pre .0) _ (omega arith)
 
 returns-2 : tie.Need-returns-2
-returns-2 c = settled-no-room (c .before .before .before .before .before .before .pre) (omega arith) _ (omega arith)
+returns-2 c = settled-no-room (c .before .before .before .before .before .before .pre .0) (omega arith) _ (omega arith)
 
 piece-requires : tie.Need-piece-requires
 piece-requires c κs = search needs
@@ -32,7 +32,7 @@ part-send-start c = search needs
 part-send-end : tie.Need-part-send-end
 part-send-end c =
     let tested = c .before .before in
-    let s = tested .before .before .before .before .before .before .pre in
+    let s = tested .before .before .before .before .before .before .pre .0 in
     omega (arith, ap length (c .before .piece .ensures), settled-part s)
 
 send-requires : tie.Need-send-requires
@@ -42,7 +42,7 @@ write-requires : tie.Need-write-requires
 write-requires c κs =
     let tested = c .before .before .before .before .before .before .before in
     let start = tested .before .before .before .before .before .before in
-    let s = start .pre in
+    let s = start .pre .0 in
     let cuts = settled-cuts s (omega arith) (start .args .out .now) (omega arith) in
     (s .left .opened .ready .sound .kept, cuts, omega (arith, settled-depth s, s .drafts .few))
 
@@ -53,7 +53,7 @@ returns-3 : tie.Need-returns-3
 returns-3 c =
     let sent = c .before .before .before .before in
     let read = sent .before .before .before in
-    let s = read .before .before .before .before .before .before .before .pre in
+    let s = read .before .before .before .before .before .before .before .pre .0 in
     settled-taken s (omega arith) _ (omega arith) (c .write .ensures) (read .piece .ensures) (sent .send .ensures)
 
 pub on-settled-spec : {M : Type 1} → statement M

@@ -47,11 +47,14 @@ loop-holds c =
 foot-requires : tie.Need-foot-requires Inv-loop μ-loop
 foot-requires c κs = search needs
 
-mul-larger : tie.Need-mul-larger Inv-loop μ-loop
-mul-larger c = search needs
+mul-load : tie.Need-mul-load Inv-loop μ-loop
+mul-load c = search needs
 
-element-copy-out-larger : tie.Need-element-copy-out-larger Inv-loop μ-loop
-element-copy-out-larger c = search needs
+element-copy-out-load : tie.Need-element-copy-out-load Inv-loop μ-loop
+element-copy-out-load c = search needs
+
+load-requires : tie.Need-load-requires Inv-loop μ-loop
+load-requires c κs = search needs
 
 larger-requires : tie.Need-larger-requires Inv-loop μ-loop
 larger-requires c κs = search needs
@@ -92,8 +95,9 @@ most-on-spec =
     start-requires-2
     loop-holds
     foot-requires
-    mul-larger
-    element-copy-out-larger
+    mul-load
+    element-copy-out-load
+    load-requires
     larger-requires
     add-j
     loop-less

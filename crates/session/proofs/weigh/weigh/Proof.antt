@@ -6,7 +6,6 @@ use lib.ListN.{length}
 use Rattle.standing.specs.Numbers.{loadAt}
 use Rattle.standing.proofs.Weighed.{loads-small, heaviest-load, weighed-on, weighed-next}
 use Rattle.session.proofs.Levelled.{heaviest-from, seat-past, seat-low}
-use borrow.Author.Needs.{needs}
 use Rattle.session.proofs.weigh.weigh.Statement.{statement}
 use Rattle.session.proofs.weigh.weigh.Tie as tie
 
@@ -42,6 +41,11 @@ add-all c =
     let pre = c .before .before .before .before .before .pre in
     omega (arith, load (c .before), loads-small (pre .0 .1 .1) _ (pre .1 .0), pre .0 .0 .few)
 
+cast-all : tie.Need-cast-all
+cast-all c =
+    let pre = c .before .before .before .before .before .pre in
+    omega (arith, load (c .before), loads-small (pre .0 .1 .1) _ (pre .1 .0), pre .0 .0 .few)
+
 mul-all : tie.Need-mul-all
 mul-all c = omega (arith, c .before .before .before .before .before .pre .0 .0 .few)
 
@@ -61,6 +65,7 @@ weigh-spec =
     most-on-requires
     piece-requires
     add-all
+    cast-all
     mul-all
     slice-write-all
     returns)
