@@ -11,38 +11,21 @@ use lib.ListN.{replicate, getD, set, drop, length-set, length-replicate}
 use borrow.Author.Tests.{ne-eqb}
 use Rattle.words.specs.Words.{common}
 use Rattle.words.proofs.Lists.{below-or}
-use Rattle.meaning.specs.Table.{edition1, Good as GoodTable}
 use Rattle.meaning.specs.Trails.{Link}
-use Rattle.table.specs.File.{tableOf}
-use Rattle.table.specs.Good.{first}
-use Rattle.table.proofs.Stands.{good-table}
 use Rattle.standing.specs.Sessions.{Entry}
 use Rattle.standing.specs.Soundly.{piecesOn}
-use Rattle.standing.specs.Bytes.{countOf, linkAt, entryAt, sessionOf, noEntry}
+use Rattle.standing.specs.Bytes.{countOf, linkAt, entryAt, noEntry}
 use Rattle.standing.specs.Numbers.{startOf, levelOf}
 use Rattle.standing.proofs.Encoded.{getD-zeros}
 use Rattle.session.proofs.Levelled.{foot-level, seat-level, At, set-at}
-use Rattle.stepping.proofs.Bounds.{deeper-within}
 use Rattle.drafting.specs.Drafts.{slotStart, draftIn, slotOf, stacked, draftsOf, Drafts, AllAt, OneMore, LevelsRise}
 use Rattle.drafting.specs.Drafts.{levelIn, Ranked, footOf, seatOf, OneLevel, PicksFoot, FirstOn, CommonOn}
 use Rattle.drafting.specs.Drafts.{PushedOne}
 use Rattle.drafting.specs.Cutting.{mostWith}
-use Rattle.engine.specs.Tests.{Opened}
 use Rattle.drafting.proofs.Drafted.{stacked-in}
 use Rattle.drafting.proofs.Groups.{Narrowing, common-some}
 use Rattle.drafting.proofs.Pushing.{same-or}
 use Rattle.drafting.proofs.Loaded.{most-start, most-past}
-
--- no step goes deeper than 32
-pub opened-shallow : {file session : List ℕ} {symbol depth : ℕ} → Opened file session symbol depth → depth ≤ 32
-opened-shallow {file} {session} {symbol} o =
-    let R = o .ready in
-    let T = tableOf file in
-    let deep = sessionOf session .depth in
-    let rules : GoodTable edition1 T = good-table {E = first} (omega arith) file (R .small) (R .good) in
-    let d =
-    deeper-within (T .class symbol) deep (T .depthCap) (R .sound .sound .depth) (o .to .shallow) in
-    omega (arith, o .is, rules .depthCap .1)
 
 module _ {work order ends : List ℕ} {all : ℕ} (d : Drafts work order all) (r : Ranked work order all ends) where
   abbrev at : ℕ → ℕ

@@ -136,6 +136,14 @@ module _ {file session : List ℕ} {symbol depth : ℕ} (o : Opened file session
   abbrev G : List Entry
   G = grow (tableOf file) (sessionOf session) symbol
 
+  -- no step goes deeper than 32
+  pub opened-shallow : depth ≤ 32
+  opened-shallow =
+      let T = tableOf file in
+      let deep = sessionOf session .depth in
+      let d = deeper-within (T .class symbol) deep (T .depthCap) (R .sound .sound .depth) (o .to .shallow) in
+      omega (arith, o .is, rules .depthCap .1)
+
   pub opened-usable : Usable file session
   opened-usable = record { good = R .good; kept = R .sound .kept; levels = levels }
     where
