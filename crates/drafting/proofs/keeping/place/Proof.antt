@@ -7,7 +7,6 @@ use Rattle.standing.specs.Numbers.{keyFrom}
 use Rattle.drafting.specs.Drafts.{slotStart, slotOf}
 use Rattle.drafting.proofs.Turns.{Above, above-none, above-upto, above-place}
 use Rattle.drafting.proofs.Putting.{numbers-fall}
-use borrow.Author.Needs.{needs}
 use Rattle.drafting.proofs.keeping.place.Statement.{statement}
 use Rattle.drafting.proofs.keeping.place.Tie as tie
 
