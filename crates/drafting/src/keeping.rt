@@ -51,8 +51,22 @@ pub fn put(
     Keeping::New
 }
 
-// How many drafts have a greater number: they are read before the place.
+// How many drafts have a greater number: they are read before the place. Most entries come in order, each before all.
 fn place(work: &[u8; WORK], order: &[u8; 64], n: usize, key: usize) -> usize
+    requires { ⌜ (Drafts (now work) (now order) n) × (RisesByLink (draftsOf (now work) (now order) n)) ⌝ }
+    ensures { λ r. ⌜ Place (now (work .entry)) (now (order .entry)) n key r ⌝ }
+{
+    if n == 0 {
+        return 0;
+    }
+    if slots::key(work, slots::slot(order, 0)) <= key {
+        return 0;
+    }
+    halved(work, order, n, key)
+}
+
+// The same by halves.
+fn halved(work: &[u8; WORK], order: &[u8; 64], n: usize, key: usize) -> usize
     requires { ⌜ (Drafts (now work) (now order) n) × (RisesByLink (draftsOf (now work) (now order) n)) ⌝ }
     ensures { λ r. ⌜ Place (now (work .entry)) (now (order .entry)) n key r ⌝ }
 {
