@@ -78,7 +78,7 @@ uint32_t jermanuts_finish(const uint8_t *file, size_t file_len, const uint8_t *s
 /* Joins two tables: writes to out the rule file of a table that allows exactly what the second
  * allows on some output of the first, and sets *count to its length. Gives 0, or the first that
  * applies of 1, 14, 15, 10. *which is 1 or 2, the bad table, where 1 is given (the first is looked
- * at first), else 0. Uses about 35 KB of stack; takes long where the second table branches much. */
+ * at first), else 0. Uses about 26 KB of stack; takes long where the second table branches much. */
 uint32_t jermanuts_join(const uint8_t *first, size_t first_len, const uint8_t *second,
                         size_t second_len, uint8_t *out, size_t out_len, uint32_t *which,
                         size_t *count);
