@@ -140,7 +140,8 @@ module _ {work order : List ℕ} {n : ℕ} (drafts : Drafts work order n) where
     before-place : (i : ℕ) → i < at → Less (entryKey (entry l piece)) (entryKey (draft i))
     before-place i h =
         let w = place .within in
-        number-rises l (draft i .link) plain (draft-plain i) .1 (omega (arith, place .above i h, number i (omega arith)))
+        number-rises l (draft i .link) plain (draft-plain i) .1
+        (omega (arith, place .above i h, number i (omega arith)))
 
     -- the drafts after the one at the place have lower numbers
     after-place : (i : ℕ) → at < i → i < n → Less (entryKey (draft i)) (entryKey (entry l piece))
@@ -173,7 +174,8 @@ module _ {work order : List ℕ} {n : ℕ} (drafts : Drafts work order n) where
             same-order = refl;
           }
 
-      pub other-piece : (pieceIn work (slotOf order at) ≡ piece → ⊥) → There true work order n (entry l piece) work order
+      pub other-piece : (pieceIn work (slotOf order at) ≡ piece → ⊥)
+          → There true work order n (entry l piece) work order
       other-piece d =
           record {
             clash =

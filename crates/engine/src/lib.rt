@@ -1,5 +1,5 @@
-// One symbol in, the bytes that all runs agree on out: `step`. A refusal changes nothing, and nothing outside what is lent
-// is read or written.
+// One symbol in, the bytes that all runs agree on out: `step`. A refusal changes nothing, and nothing outside what is
+// lent is read or written.
 mod saying;
 mod taking;
 mod write;

@@ -82,7 +82,8 @@ module _ (one two out : List ℕ) where
           → ((number ≡ 0 → ⊥) → (count ≡ 0) × (out′ ≡ out)) → (number ≡ 0 → count ≡ length (joinedFile one two))
           → (number ≡ 0 → out′ ≡ joinedFile one two ++ drop count out) → Joins one two out number 0 count out′
       told {number} e refused counted written =
-          let one-not : number ≡ 1 → ⊥ = λ h. absent 1 (joinTests edition1 (length out) A B) (omega arith) refl (e ∙ h) in
+          let tests = joinTests edition1 (length out) A B in
+          let one-not : number ≡ 1 → ⊥ = λ h. absent 1 tests (omega arith) refl (e ∙ h) in
           record {
             good-first = (λ f. good, λ g h. one-not (h .0));
             bad-first = (λ h. absurd (one-not (h .0)), λ f. absurd (f good));

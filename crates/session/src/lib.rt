@@ -1,4 +1,5 @@
-// Sessions: which bytes are sound for a table, and those to begin with. Nothing outside the lent bytes is read or written.
+// Sessions: which bytes are sound for a table, and those to begin with. Nothing outside the lent bytes is read or
+// written.
 mod fresh;
 pub mod levels;
 mod rules;

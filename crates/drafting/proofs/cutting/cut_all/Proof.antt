@@ -1,5 +1,5 @@
--- `drafting::cutting::cut_all` meets its contract: of the drafts before i it is written by how much they are cut. Assumes
--- nothing.
+-- `drafting::cutting::cut_all` meets its contract: of the drafts before i it is written by how much they are cut.
+-- Assumes nothing.
 use mathlib.Core.Path.{_≡_}
 use Prim.Native.Nat.{_-_, _≤_}
 use native.Mathlib.Omega.{arith}

@@ -1,5 +1,6 @@
 -- `engine::taking::on_grown` meets its contract: the links of the moved trails are drafted. Assumes nothing.
-use Rattle.engine.proofs.Asked.{grew-level, grew-crowded, grew-conflict, grew-left, opened-shallow, opened-usable}
+use Rattle.engine.proofs.Asked.{grew-level, grew-crowded, grew-conflict, grew-left, opened-shallow}
+use Rattle.engine.proofs.Asked.{opened-usable}
 use borrow.Author.Needs.{needs}
 use Rattle.engine.proofs.taking.on_grown.Statement.{statement}
 use Rattle.engine.proofs.taking.on_grown.Tie as tie
