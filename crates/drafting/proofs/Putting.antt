@@ -11,9 +11,11 @@ use native.Mathlib.Omega.{arith}
 use lib.ListN.{length}
 use Rattle.words.specs.Lists.{_among_}
 use Rattle.words.specs.Words.{Word}
+use Rattle.words.specs.Calls.{Inserted}
 use Rattle.words.specs.Order.{Less, Side, lower, same, upper, side, putBy, put}
 use Rattle.words.proofs.Lists.{below-or}
 use Rattle.words.proofs.Order.{less-self, less-trans, side-lower, side-same, side-self, less-side, rises-one}
+use Rattle.words.proofs.Shifted.{Came, stayed, fresh, moved, came}
 use Rattle.words.proofs.Exact.{exact-same, no-exact}
 use Rattle.meaning.specs.Trails.{Link}
 use Rattle.meaning.specs.Answers.{linksCap}
@@ -22,7 +24,7 @@ use Rattle.standing.specs.Bytes.{NoneBelow}
 use Rattle.standing.specs.Numbers.{keyFrom}
 use Rattle.stepping.specs.Stepping.{entryKey, clashes}
 use Rattle.drafting.specs.Drafts.{slotStart, draftRoom, lengthIn, pieceIn, draftIn, slotOf, stacked, draftsOf}
-use Rattle.drafting.specs.Drafts.{Drafts, linkNo, Plain, Filled, Place, Inserted, There, Placed, NoSlot}
+use Rattle.drafting.specs.Drafts.{Drafts, linkNo, Plain, Filled, Place, There, Placed, NoSlot}
 use Rattle.stepping.proofs.Keep.{clashes-exact}
 use Rattle.drafting.proofs.Numbers.{number-one, number-rises, from-plain, key-from}
 use Rattle.drafting.proofs.Drafted.{length-stacked, stacked-in, stacked-out, stacked-same, stacked-falls}
@@ -94,25 +96,6 @@ module _ {A : Type 0} (key : A → Word) (x : A) where
 no-clash : (e : Entry) (E : List Entry) → ((f : Entry) → f among E → entryKey e ≡ entryKey f → e .piece ≡ f .piece)
     → clashes e E ≡ false
 no-clash e E h = exact-same (clashes-exact e E) (no-exact (λ x. x .2 .1 (h (x .0) (x .1) (x .2 .0))))
-
--- where the slot at a place comes from, after one was inserted
-data Came (order : List ℕ) (n at : ℕ) (order′ : List ℕ) (j : ℕ) : Type 0 where
-  stayed : j < at → slotOf order′ j ≡ slotOf order j → Came order n at order′ j
-  fresh : j ≡ at → slotOf order′ j ≡ n → Came order n at order′ j
-  moved : (k : ℕ) → j ≡ k + 1 → at ≤ k → k < n → slotOf order′ j ≡ slotOf order k → Came order n at order′ j
-
-came : {order order′ : List ℕ} {n at : ℕ} → Inserted order n at order′ → (j : ℕ) → j < n + 1 → Came order n at order′ j
-came {order} {order′} {n} {at} into j lt = go (below-or j at) (below-or at j)
-  where
-    go : (j < at) ⊎ (at ≤ j) → (at < j) ⊎ (j ≤ at) → Came order n at order′ j
-    go (inl h) o = stayed h (into .before j h)
-    go (inr h) (inr k) =
-        let e : j ≡ at = omega arith in
-        fresh e (ap (slotOf order′) e ∙ into .here)
-    go (inr h) (inl k) =
-        let e : j ≡ j - 1 + 1 = omega arith in
-        moved (j - 1) e (omega arith) (omega arith)
-        (ap (slotOf order′) e ∙ into .after (j - 1) (omega arith) (omega arith))
 
 -- the numbers of the drafts, which fall as they are read
 
@@ -226,7 +209,7 @@ module _ {work order : List ℕ} {n : ℕ} (drafts : Drafts work order n) where
             same-order = refl;
           }
 
-      module _ {work′ order′ : List ℕ} (fill : Filled work n key piece work′) (into : Inserted order n at order′) where
+      module _ {work′ order′ : List ℕ} (fill : Filled work n key piece work′) (into : Inserted order n at n order′) where
         -- a draft that was there is in the same slot, which is not the new one
         old : (i : ℕ) → i < n → slotOf order i ≡ n → ⊥
         old i h e = omega (arith, drafts .within i h)
@@ -253,12 +236,12 @@ module _ {work order : List ℕ} {n : ℕ} (drafts : Drafts work order n) where
             ap (λ (j : ℕ). draftIn work′ (slotOf order′ j)) (sym (add-one i)) ∙ ap (draftIn work′) (into .after i h k)
             ∙ draft-there i k)))
 
-        within : (j : ℕ) → Came order n at order′ j → slotOf order′ j < n + 1
+        within : (j : ℕ) → Came order n at n order′ j → slotOf order′ j < n + 1
         within j (stayed h e) = omega (arith, drafts .within j (omega (arith, place .within)))
         within j (fresh h e) = omega arith
         within j (moved k d g h e) = omega (arith, drafts .within k h)
 
-        once : (i j : ℕ) → i < j → Came order n at order′ i → Came order n at order′ j
+        once : (i j : ℕ) → i < j → Came order n at n order′ i → Came order n at n order′ j
             → slotOf order′ i ≡ slotOf order′ j → ⊥
         once i j l (stayed h e) (stayed g f) z =
             drafts .once i j l (omega (arith, place .within)) (sym e ∙ z ∙ f)
@@ -272,7 +255,7 @@ module _ {work order : List ℕ} {n : ℕ} (drafts : Drafts work order n) where
         once i j l (moved k d g m e) (moved t b h o f) z = drafts .once k t (omega arith) o (sym e ∙ z ∙ f)
 
         -- what holds of the slots that were in use, and of the new one
-        slots-all : (P : ℕ → Type 0) → ((i : ℕ) → i < n → P (slotOf order i)) → P n → (j : ℕ) → Came order n at order′ j
+        slots-all : (P : ℕ → Type 0) → ((i : ℕ) → i < n → P (slotOf order i)) → P n → (j : ℕ) → Came order n at n order′ j
             → P (slotOf order′ j)
         slots-all P h k j (stayed l e) = subst P (sym e) (h j (omega (arith, place .within)))
         slots-all P h k j (fresh l e) = subst P (sym e) k

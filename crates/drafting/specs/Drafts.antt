@@ -164,13 +164,6 @@ pub record Place (work order : List ℕ) (n key at : ℕ) : Type 0 where
   pub above : (i : ℕ) → i < at → key < keyFrom work (slotStart (slotOf order i))
   pub here : at < n → keyFrom work (slotStart (slotOf order at)) ≤ key
 
--- the slot `n` is read at a place, and those that were from there on one later
-pub record Inserted (order : List ℕ) (n at : ℕ) (order′ : List ℕ) : Type 0 where
-  pub whole : length order′ ≡ length order
-  pub before : (i : ℕ) → i < at → slotOf order′ i ≡ slotOf order i
-  pub here : slotOf order′ at ≡ n
-  pub after : (i : ℕ) → at ≤ i → i < n → slotOf order′ (i + 1) ≡ slotOf order i
-
 -- what became of an entry: its link is there, with another piece or not; it was put at its place; or no slot is left
 pub record There (other : Bool) (work order : List ℕ) (n : ℕ) (e : Entry) (work′ order′ : List ℕ) : Type 0 where
   pub clash : clashes e (draftsOf work order n) ≡ other

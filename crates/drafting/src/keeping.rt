@@ -1,6 +1,7 @@
 // Putting entries at their places among the drafts, each link once.
 use crate::slots;
 use crate::slots::WORK;
+use words::insert;
 use words::same;
 ghost use mathlib.Core.Path.{_≡_};
 ghost use mathlib.Core.List.{_++_};
@@ -8,7 +9,7 @@ ghost use Prim.Native.Nat.{_+_, _≤_, _<_};
 ghost use lib.ListN.{length};
 ghost use Rattle.words.specs.Lists.{Exact};
 ghost use Rattle.standing.specs.Sessions.{RisesByLink};
-ghost use Rattle.drafting.specs.Drafts.{draftRoom, draftsOf, Drafts, Place, Inserted, PutIn};
+ghost use Rattle.drafting.specs.Drafts.{draftRoom, draftsOf, Drafts, Place, PutIn};
 
 // What became of an entry: its link is there with the same piece, with another, it is new, or there is no slot left.
 pub enum Keeping {
@@ -47,7 +48,8 @@ pub fn put(
         return Keeping::Full;
     }
     slots::fill(work, n, key, a, b, c);
-    insert(order, n, at);
+    let all = &mut order[..];
+    insert(all, n, at, n as u8);
     Keeping::New
 }
 
@@ -100,18 +102,4 @@ fn same_piece(piece: &[u8], a: &[u8], b: &[u8], c: &[u8]) -> bool
         return false;
     }
     same(&piece[third..], c)
-}
-
-// The slot after those in use comes at a place, and those from there on move up by one.
-fn insert(order: &mut [u8; 64], n: usize, at: usize)
-    requires { ⌜ (at ≤ n) × (n < 64) ⌝ }
-    ensures { λ _. ⌜ Inserted (now (order .entry)) n at (now (order .exit)) ⌝ }
-{
-    let all = &mut order[..];
-    let mut i = n;
-    while at < i {
-        all[i] = all[i - 1];
-        i -= 1;
-    }
-    all[at] = n as u8;
 }

@@ -13,11 +13,13 @@ use lib.Seq.{slice, take-take, take-append-le, drop-at, length-take-le, take-len
 use lib.Seq.{paste, take-paste, length-paste, getD-set-same, getD-set-other}
 use Rattle.words.specs.Lists.{_among_, upTo}
 use Rattle.words.specs.Words.{Word}
+use Rattle.words.specs.Calls.{Inserted}
 use Rattle.words.specs.Order.{Less, Side, lower, same, upper, side, Rises}
 use Rattle.words.proofs.Lists.{upTo-in, upTo-out, below-or}
 use Rattle.words.proofs.Order.{less-self, side-lower, side-same, side-upper}
+use Rattle.words.proofs.Shifted.{Came, stayed, fresh, moved, came}
 use Rattle.shelf.specs.Shelved.{shelfCap, shelfRoom, startOf, slotOf, wordIn, wordAt, wordsOf, kept, total}
-use Rattle.shelf.specs.Shelved.{Held, Place, Stored, Inserted}
+use Rattle.shelf.specs.Shelved.{Held, Place, Stored}
 use Rattle.shelf.proofs.Lists.{add, add-there, add-new, add-between, kept-more, kept-rises, words-count}
 use Rattle.shelf.proofs.Turns.{words-rise}
 
@@ -120,24 +122,6 @@ pub held-count : {made : List Word} {arena starts order : List ℕ} {count used 
     → Held made arena starts order count used → count ≡ length (kept made)
 held-count {arena = arena} {starts} {order} {count} h = sym (words-count arena starts order count) ∙ ap length (h .are)
 
--- where the slot at a place comes from, after one was inserted
-data Came (order : List ℕ) (count at : ℕ) (order′ : List ℕ) (j : ℕ) : Type 0 where
-  fresh : slotOf order′ j ≡ count → Came order count at order′ j
-  old : (k : ℕ) → k < count → slotOf order′ j ≡ slotOf order k → Came order count at order′ j
-
-came : {order order′ : List ℕ} {count at : ℕ} → Inserted order count at order′ → at ≤ count → (j : ℕ) → j < count + 1
-    → Came order count at order′ j
-came {order} {order′} {count} {at} into le j lt = go (below-or j at) (below-or at j)
-  where
-    go : (j < at) ⊎ (at ≤ j) → (at < j) ⊎ (j ≤ at) → Came order count at order′ j
-    go (inl h) o = old j (omega arith) (into .before j h)
-    go (inr h) (inr k) =
-        let e : j ≡ at = omega arith in
-        fresh (ap (slotOf order′) e ∙ into .here)
-    go (inr h) (inl k) =
-        let e : j ≡ j - 1 + 1 = omega arith in
-        old (j - 1) (omega arith) (ap (slotOf order′) e ∙ into .after (j - 1) (omega arith) (omega arith))
-
 module _ {made : List Word} {arena starts order : List ℕ} {count used : ℕ}
     (held : Held made arena starts order count used) {w : Word} {at : ℕ}
     (place : Place arena starts order count w at) where
@@ -200,7 +184,7 @@ module _ {made : List Word} {arena starts order : List ℕ} {count used : ℕ}
         ap total (kept-more w made) ∙ add-new w (kept made) not-there .1 ∙ omega arith
 
     module _ {arena′ starts′ order′ : List ℕ} {end : ℕ} (s : Stored arena starts count used w end arena′ starts′)
-        (into : Inserted order count at order′) where
+        (into : Inserted order count at count order′) where
       stays : (i : ℕ) → i < count → wordIn arena′ starts′ (slotOf order i) ≡ word i
       stays i l =
           let k = held .standing .slots i l in
@@ -219,16 +203,17 @@ module _ {made : List Word} {arena starts order : List ℕ} {count used : ℕ}
           ∙ ap (add w) (held .are)
           ∙ sym (kept-more w made))
 
-      within : (j : ℕ) → Came order count at order′ j → slotOf order′ j < count + 1
-      within j (fresh e) = omega arith
-      within j (old k l e) = omega (arith, held .standing .slots k l)
+      within : (j : ℕ) → Came order count at count order′ j → slotOf order′ j < count + 1
+      within j (stayed h e) = omega (arith, held .standing .slots j (omega (arith, place .within)))
+      within j (fresh h e) = omega arith
+      within j (moved k h g l e) = omega (arith, held .standing .slots k l)
 
       pub held-new : count < shelfCap → end ≤ shelfRoom → Held (made ++ w ∷ []) arena′ starts′ order′ (count + 1) end
       held-new few room =
           record {
             standing = record {
               few = omega arith;
-              slots = λ j h. within j (came into (place .within) j h);
+              slots = λ j h. within j (came into j h);
               edges =
                   below-more (λ k. startOf starts′ k ≤ startOf starts′ (k + 1)) count
                   (λ k l. omega (arith, s .before k l, end-stays s (held .last) k l, held .standing .edges k l))

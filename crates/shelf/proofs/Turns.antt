@@ -1,18 +1,16 @@
--- What the loops leave that look for the place of a word and insert a slot into the order. Assumes nothing.
-use mathlib.Core.Path.{_≡_, refl, sym, _∙_, ap}
+-- What the loop leaves that looks for the place of a word. Assumes nothing.
+use mathlib.Core.Path.{_≡_, sym, _∙_, ap}
 use mathlib.Core.Logic.{_⊎_, inl, inr}
 use mathlib.Core.List.{List, Memᴰ·of-map}
 use Prim.Native.Nat.{ℕ, _+_, _-_, _<_, _≤_}
 use native.Mathlib.Nat.{eq-or-lt-of-le}
 use native.Mathlib.Omega.{arith}
-use lib.ListN.{length, set, length-set}
-use lib.Seq.{getD-set-same, getD-set-other}
 use Rattle.words.specs.Lists.{upTo}
 use Rattle.words.specs.Words.{Word}
 use Rattle.words.specs.Order.{Less, lower, same, upper, side, rank}
 use Rattle.words.proofs.Lists.{upTo-out, below-or}
 use Rattle.words.proofs.Order.{less-self, less-trans, side-lower, side-same, side-upper, rises-out}
-use Rattle.shelf.specs.Shelved.{slotOf, wordAt, wordsOf, Standing, Place, Inserted}
+use Rattle.shelf.specs.Shelved.{wordAt, wordsOf, Standing, Place}
 use Rattle.shelf.proofs.Lists.{rank-at}
 
 -- the place is between two others
@@ -112,43 +110,3 @@ module _ {arena starts order : List ℕ} {count : ℕ} where
               sym
               (rank-at w at count low (omega arith) (sym (ap at d ∙ e)) (λ j h f.
               less-self w (rw (← f) at (n .before j h))))
-
--- the slots from a place up to `count` moved up by one
-pub record Shifted (order : List ℕ) (count at : ℕ) (order′ : List ℕ) : Type 0 where
-  pub whole : length order′ ≡ length order
-  pub before : (i : ℕ) → i < at → slotOf order′ i ≡ slotOf order i
-  pub after : (i : ℕ) → at ≤ i → i < count → slotOf order′ (i + 1) ≡ slotOf order i
-
-pub shifted-none : (order : List ℕ) (count : ℕ) → Shifted order count count order
-shifted-none order count = record { whole = refl; before = λ i h. refl; after = λ i g h. absurd (omega arith) }
-
-module _ {order order′ : List ℕ} {count at : ℕ} (s : Shifted order count at order′) where
-  pub shifted-more : 0 < at → at < length order → Shifted order count (at - 1) (set order′ at (slotOf order′ (at - 1)))
-  shifted-more pos lt =
-      record {
-        whole = length-set order′ at (slotOf order′ (at - 1)) ∙ s .whole;
-        before = λ i h.
-            getD-set-other order′ at i (slotOf order′ (at - 1)) 0 (λ e. omega arith) ∙ s .before i (omega arith);
-        after = λ i g h. after i g h (below-or i at);
-      }
-    where
-      after : (i : ℕ) → at - 1 ≤ i → i < count → (i < at) ⊎ (at ≤ i)
-          → slotOf (set order′ at (slotOf order′ (at - 1))) (i + 1) ≡ slotOf order i
-      after i g h (inr k) =
-          getD-set-other order′ at (i + 1) (slotOf order′ (at - 1)) 0 (λ e. omega arith) ∙ s .after i k h
-      after i g h (inl k) =
-          let e : i + 1 ≡ at = omega arith in
-          let f : at - 1 ≡ i = omega arith in
-          ap (slotOf (set order′ at (slotOf order′ (at - 1)))) e
-          ∙ getD-set-same order′ at (slotOf order′ (at - 1)) 0 (omega (arith, s .whole))
-          ∙ ap (slotOf order′) f ∙ s .before i k
-
-  pub shifted-inserted : (place : ℕ) → place ≤ at → at ≤ place → place < length order
-      → Inserted order count place (set order′ place count)
-  shifted-inserted place le ge lt =
-      record {
-        before = λ k h. getD-set-other order′ place k count 0 (λ e. omega arith) ∙ s .before k (omega arith);
-        here = getD-set-same order′ place count 0 (omega (arith, s .whole));
-        after = λ k g h.
-            getD-set-other order′ place (k + 1) count 0 (λ e. omega arith) ∙ s .after k (omega arith) h;
-      }

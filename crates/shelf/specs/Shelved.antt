@@ -101,9 +101,3 @@ pub record Stored (arena starts : List ℕ) (count used : ℕ) (w : Word) (end :
   pub before : (k : ℕ) → k < count → startOf starts′ k ≡ startOf starts k
   pub from : startOf starts′ count ≡ used
   pub to : startOf starts′ (count + 1) ≡ end
-
--- the slot `count` is read at a place, and those that were from there on one later
-pub record Inserted (order : List ℕ) (count at : ℕ) (order′ : List ℕ) : Type 0 where
-  pub before : (i : ℕ) → i < at → slotOf order′ i ≡ slotOf order i
-  pub here : slotOf order′ at ≡ count
-  pub after : (i : ℕ) → at ≤ i → i < count → slotOf order′ (i + 1) ≡ slotOf order i

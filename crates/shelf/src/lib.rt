@@ -3,6 +3,7 @@
 use words::Order;
 use words::compare;
 use words::copy;
+use words::insert;
 use words::wide;
 ghost use mathlib.Core.Path.{_≡_};
 ghost use mathlib.Core.List.{_∷_, [], _++_};
@@ -11,7 +12,7 @@ ghost use lib.ListN.{length};
 ghost use Rattle.words.specs.Lists.{Exact};
 ghost use Rattle.words.specs.Order.{side};
 ghost use Rattle.words.specs.Calls.{sideOf};
-ghost use Rattle.shelf.specs.Shelved.{wordAt, Stands, Standing, Bare, Ready, Gathers, Place, Stored, Inserted};
+ghost use Rattle.shelf.specs.Shelved.{wordAt, Stands, Standing, Bare, Ready, Gathers, Place, Stored};
 ghost use Rattle.shelf.specs.declared.Shelf.the-variants.{Full, Made};
 
 // How many bytes all words may have together.
@@ -171,7 +172,8 @@ fn put_in(
         return Shelf::Full;
     }
     let end = store(arena, starts, count, used, head, tail);
-    insert(order, count, at);
+    let slots = &mut order[..];
+    insert(slots, count, at, count as u8);
     Shelf::Made {
         count: count + 1,
         used: end,
@@ -200,18 +202,4 @@ fn store(
     slots[count] = used;
     slots[count + 1] = end;
     end
-}
-
-// The slot after those in use comes at a place, and those from there on move up by one.
-fn insert(order: &mut [u8; 256], count: usize, at: usize)
-    requires { ⌜ (at ≤ count) × (count < 256) ⌝ }
-    ensures { λ _. ⌜ Inserted (now (order .entry)) count at (now (order .exit)) ⌝ }
-{
-    let all = &mut order[..];
-    let mut i = count;
-    while at < i {
-        all[i] = all[i - 1];
-        i -= 1;
-    }
-    all[at] = count as u8;
 }

@@ -10,6 +10,7 @@ pub mod Below
 pub mod Cleared
 pub mod Pasted
 pub mod Puts
+pub mod Shifted
 pub mod Calls
 pub mod Agreed
 mod Equal

@@ -13,6 +13,7 @@ pub use byte_order::compare;
 pub use byte_order::same;
 pub use writing::clear;
 pub use writing::copy;
+pub use writing::insert;
 pub use writing::put_byte;
 pub use writing::put_bytes;
 ghost use mathlib.Core.Path.{_≡_};

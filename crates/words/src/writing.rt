@@ -1,10 +1,10 @@
 // Writing a part of a slice, and nothing else of it.
 ghost use mathlib.Core.Path.{_≡_};
 ghost use mathlib.Core.List.{[], _∷_};
-ghost use Prim.Native.Nat.{_+_, _≤_};
+ghost use Prim.Native.Nat.{_+_, _<_, _≤_};
 ghost use lib.ListN.{length, replicate};
 ghost use lib.Seq.{paste};
-ghost use Rattle.words.specs.Calls.{Room, Appended};
+ghost use Rattle.words.specs.Calls.{Room, Appended, Inserted};
 
 // All of `part`, from a place on.
 pub fn copy(to: &mut [u8], at: usize, part: &[u8])
@@ -46,4 +46,17 @@ pub fn put_bytes(text: &mut [u8], at: usize, bytes: &[u8]) -> usize
 {
     copy(text, at, bytes);
     at + bytes.len()
+}
+
+// A byte comes at a place, and those from there on, of the first `count`, move up by one.
+pub fn insert(to: &mut [u8], count: usize, at: usize, byte: u8)
+    requires { ⌜ (at ≤ count) × (count < length (now to)) ⌝ }
+    ensures { λ _. ⌜ Inserted (now (to .entry)) count at byte (now (to .exit)) ⌝ }
+{
+    let mut i = count;
+    while at < i {
+        to[i] = to[i - 1];
+        i -= 1;
+    }
+    to[at] = byte;
 }

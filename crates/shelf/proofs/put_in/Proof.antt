@@ -79,13 +79,18 @@ store-requires c κs =
     let s = held-before (start (c .before .before .before .before .before .before)) in
     (omega (arith, s .standing .few), omega (arith, s .room))
 
+cast-insert : tie.Need-cast-insert
+cast-insert c =
+    let stands = c .before .before .before .before .before .before .before .before in
+    omega (arith, held-before (start stands) .standing .few)
+
 insert-requires : tie.Need-insert-requires
 insert-requires c κs =
     let stands = c .before .before .before .before .before .before .before .before in
     (placed stands .place .ensures .within, omega (arith, held-before (start stands) .standing .few))
 
-add-t18 : tie.Need-add-t18
-add-t18 c =
+add-t19 : tie.Need-add-t19
+add-t19 c =
     let stands = c .before .before .before .before .before .before .before .before .before in
     omega (arith, held-before (start stands) .standing .few)
 
@@ -112,6 +117,7 @@ put-in-spec =
     sub-if4-2
     returns-4
     store-requires
+    cast-insert
     insert-requires
-    add-t18
+    add-t19
     returns-5)

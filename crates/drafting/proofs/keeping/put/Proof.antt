@@ -123,6 +123,9 @@ returns-3 c =
 fill-requires : tie.Need-fill-requires
 fill-requires c κs = search needs
 
+cast-insert : tie.Need-cast-insert
+cast-insert c = search needs
+
 insert-requires : tie.Need-insert-requires
 insert-requires c κs = search needs
 
@@ -151,5 +154,6 @@ put-spec =
     returns-2
     returns-3
     fill-requires
+    cast-insert
     insert-requires
     returns-4)
