@@ -39,10 +39,7 @@ slice-write-to-2 : tie.Need-slice-write-to-2 Inv-loop μ-loop
 slice-write-to-2 c = omega (arith, c .before .loop .inv .2 .whole)
 
 same-length : tie.Need-same-length Inv-loop μ-loop
-same-length c =
-    let loop = c .before .loop in
-    let args = c .before .before .args in
-    length-set (loop .to) (args .at) (args .byte) ∙ loop .inv .2 .whole
+same-length c = let loop = c .before .loop in length-set (loop .to) _ _ ∙ loop .inv .2 .whole
 
 returns : tie.Need-returns Inv-loop μ-loop
 returns c = shifted-inserted (c .before .loop .inv .2) _ _ (omega arith) (omega arith) (omega arith) (omega arith)
