@@ -4,11 +4,11 @@
 //! workload once, for callgrind.
 
 mod engine;
-mod ours;
 mod report;
 mod workloads;
 
 use engine::{Work, SESSION};
+use jermanuts::{numbers as ours, WORK};
 use std::hint::black_box;
 use std::process::ExitCode;
 use std::time::{Duration, Instant};
@@ -42,7 +42,7 @@ struct Desk<'a> {
     session: Box<[u8; SESSION]>,
     out: Vec<u8>,
     work: Box<Work>,
-    our_work: Box<[u8; ours::WORK]>,
+    our_work: Box<[u8; WORK]>,
 }
 
 impl<'a> Desk<'a> {
@@ -54,7 +54,7 @@ impl<'a> Desk<'a> {
             session: Box::new([0; SESSION]),
             out: vec![0; OUT],
             work: Box::new(Work::new()),
-            our_work: Box::new([0; ours::WORK]),
+            our_work: Box::new([0; WORK]),
         };
         let led = match &workload.kind {
             Kind::Steps { before, .. } | Kind::Finish { before } => before.as_slice(),
@@ -114,7 +114,7 @@ impl<'a> Desk<'a> {
             }
             (Kind::Begin, Side::Ours) => begun(ours::begin(file, &mut self.session)),
             (Kind::Begin, Side::Rust) => begun(engine::begin(file, &mut self.session)),
-            (Kind::Steps { .. }, Side::Ours) => with_count(ours::step(
+            (Kind::Steps { .. }, Side::Ours) => with_count(ours::step_in(
                 file,
                 &mut self.session,
                 symbol,

@@ -27,10 +27,10 @@
 #![no_std]
 #![deny(missing_docs, unsafe_code)]
 
+#[allow(unsafe_code)]
+pub mod numbers;
 mod refusal;
 mod session;
-#[allow(unsafe_code)]
-mod sys;
 mod table;
 
 pub use refusal::Refusal;

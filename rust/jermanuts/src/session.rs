@@ -1,7 +1,7 @@
 use core::borrow::BorrowMut;
 use core::fmt::{self, Debug, Formatter};
 
-use crate::{sys, Refusal, Table, SESSION, WORK};
+use crate::{numbers, Refusal, Table, SESSION, WORK};
 
 /// A message being rewritten: its table, and a room of [`SESSION`] bytes. [`Table::begin`] makes
 /// one.
@@ -101,7 +101,7 @@ impl<'t, R: BorrowMut<[u8; SESSION]>> Session<'t, R> {
     /// # Ok::<(), Refusal>(())
     /// ```
     pub fn step<'o>(&mut self, symbol: u8, out: &'o mut [u8]) -> Result<&'o [u8], Refusal> {
-        let (number, count) = sys::step(self.table.file(), self.room.borrow_mut(), symbol, out);
+        let (number, count) = numbers::step(self.table.file(), self.room.borrow_mut(), symbol, out);
         Refusal::told(number).map(|()| &out[..count])
     }
 
@@ -124,7 +124,7 @@ impl<'t, R: BorrowMut<[u8; SESSION]>> Session<'t, R> {
         work: &mut [u8; WORK],
     ) -> Result<&'o [u8], Refusal> {
         let session = self.room.borrow_mut();
-        let (number, count) = sys::step_in(self.table.file(), session, symbol, out, work);
+        let (number, count) = numbers::step_in(self.table.file(), session, symbol, out, work);
         Refusal::told(number).map(|()| &out[..count])
     }
 
@@ -149,7 +149,7 @@ impl<'t, R: BorrowMut<[u8; SESSION]>> Session<'t, R> {
     /// # Ok::<(), Refusal>(())
     /// ```
     pub fn finish<'o>(&self, out: &'o mut [u8]) -> Result<&'o [u8], Refusal> {
-        let (number, count) = sys::finish(self.table.file(), self.room.borrow(), out);
+        let (number, count) = numbers::finish(self.table.file(), self.room.borrow(), out);
         Refusal::told(number).map(|()| &out[..count])
     }
 }

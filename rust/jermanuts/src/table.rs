@@ -1,7 +1,7 @@
 use core::borrow::BorrowMut;
 use core::fmt::{self, Debug, Formatter};
 
-use crate::{sys, Refusal, Session, SESSION};
+use crate::{numbers, Refusal, Session, SESSION};
 
 /// A rule file that was checked and keeps every rule. It borrows the file, and copies are cheap.
 ///
@@ -28,7 +28,7 @@ impl<'a> Table<'a> {
     /// assert_eq!(Table::new(b"no rule file"), Err(Refusal::BadTable));
     /// ```
     pub fn new(file: &'a [u8]) -> Result<Table<'a>, Refusal> {
-        Refusal::told(sys::check(file))?;
+        Refusal::told(numbers::check(file))?;
         Ok(Table { file })
     }
 
@@ -60,7 +60,7 @@ impl<'a> Table<'a> {
     /// # Ok::<(), Refusal>(())
     /// ```
     pub fn begin<R: BorrowMut<[u8; SESSION]>>(self, mut room: R) -> (Session<'a, R>, u32) {
-        let (number, states) = sys::begin(self.file, room.borrow_mut());
+        let (number, states) = numbers::begin(self.file, room.borrow_mut());
         debug_assert_eq!(number, 0, "the file was checked");
         (Session::resume(self, room), states)
     }
@@ -95,7 +95,7 @@ impl<'a> Table<'a> {
     /// # Ok::<(), Refusal>(())
     /// ```
     pub fn join<'o>(self, second: Table<'_>, out: &'o mut [u8]) -> Result<Table<'o>, Refusal> {
-        let (number, count) = sys::join(self.file, second.file, out);
+        let (number, _, count) = numbers::join(self.file, second.file, out);
         Refusal::told(number)?;
         // What join writes is a good file: proved, so not checked again.
         Ok(Table {

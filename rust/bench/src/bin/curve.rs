@@ -2,23 +2,12 @@
 //! Prints the table of docs/JOINING.md and, with a path as its argument, writes the plot there.
 use std::fmt::Write;
 
+use jermanuts::{Table, FILE};
+
 const WORDS: usize = 16;
 const ROWS: usize = 4;
 /// Beyond so many readings a time is told by the one before it: one byte more takes as many times longer as rows fit.
 const READINGS: f64 = 7e7;
-
-extern "C" {
-    fn jermanuts_join(
-        first: *const u8,
-        first_len: usize,
-        second: *const u8,
-        second_len: usize,
-        out: *mut u8,
-        out_len: usize,
-        which: *mut u32,
-        count: *mut usize,
-    ) -> u32;
-}
 
 /// A rule file with one state, one internal symbol, and a row from that state to itself for each word.
 fn table(symbol: u8, words: &[Vec<u8>]) -> Vec<u8> {
@@ -72,23 +61,14 @@ fn clock() -> f64 {
 
 /// Joins so many times; each must be taken.
 fn joined(first: &[u8], second: &[u8], times: u32) {
-    let mut out = vec![0u8; 8192];
-    let (mut which, mut count) = (0u32, 0usize);
+    let good = |file| Table::new(file).expect("a good table");
+    let (first, second) = (good(first), good(second));
     for _ in 0..times {
-        // Each pointer is to a buffer of the length beside it, and none overlap.
-        let number = unsafe {
-            jermanuts_join(
-                first.as_ptr(),
-                first.len(),
-                second.as_ptr(),
-                second.len(),
-                out.as_mut_ptr(),
-                out.len(),
-                &mut which,
-                &mut count,
-            )
-        };
-        assert_eq!(number, 0, "two tables that can be joined");
+        let mut out = [0u8; FILE];
+        assert!(
+            first.join(second, &mut out).is_ok(),
+            "two tables that can be joined"
+        );
     }
 }
 

@@ -1,6 +1,9 @@
-//! The library's functions, and the only unsafe code: each is called with slices and arrays, whose
-//! types say what the header `include/jermanuts.h` asks in words. Lengths are right, no pointer is
-//! null, and nothing that is written overlaps anything.
+//! The calls with numbers for answers, as they are in C: for programs that compare or measure.
+//! [`Table`](crate::Table) and [`Session`](crate::Session) are made of them.
+//!
+//! Here is the only unsafe code: each function is called with slices and arrays, whose types say
+//! what the header `include/jermanuts.h` asks in words. Lengths are right, no pointer is null, and
+//! nothing that is written overlaps anything.
 
 use crate::{SESSION, WORK};
 
@@ -48,12 +51,28 @@ extern "C" {
 }
 
 /// The number.
+///
+/// ```
+/// use jermanuts::numbers;
+///
+/// # const G: &[u8] = include_bytes!(concat!(env!("CARGO_MANIFEST_DIR"), "/../../samples/g.table"));
+/// assert_eq!(numbers::check(G), 0);
+/// assert_eq!(numbers::check(b"no rule file"), 1);
+/// ```
 pub fn check(file: &[u8]) -> u32 {
     // SAFETY: `file` is a slice.
     unsafe { jermanuts_check(file.as_ptr(), file.len()) }
 }
 
 /// The number, and the starting states.
+///
+/// ```
+/// use jermanuts::numbers;
+///
+/// # const G: &[u8] = include_bytes!(concat!(env!("CARGO_MANIFEST_DIR"), "/../../samples/g.table"));
+/// let mut session = [0; jermanuts::SESSION];
+/// assert_eq!(numbers::begin(G, &mut session), (0, 1));
+/// ```
 pub fn begin(file: &[u8], session: &mut [u8; SESSION]) -> (u32, u32) {
     let mut states = 0;
     // SAFETY: the session has its length by its type; it and `states` are borrowed for writing, so
@@ -64,6 +83,15 @@ pub fn begin(file: &[u8], session: &mut [u8; SESSION]) -> (u32, u32) {
 }
 
 /// The number, and the byte count.
+///
+/// ```
+/// use jermanuts::numbers;
+///
+/// # const G: &[u8] = include_bytes!(concat!(env!("CARGO_MANIFEST_DIR"), "/../../samples/g.table"));
+/// let (mut session, mut out) = ([0; jermanuts::SESSION], [0; jermanuts::OUT]);
+/// numbers::begin(G, &mut session);
+/// assert_eq!(numbers::step(G, &mut session, 10, &mut out), (0, 1));
+/// ```
 pub fn step(file: &[u8], session: &mut [u8; SESSION], symbol: u8, out: &mut [u8]) -> (u32, usize) {
     let mut count = 0;
     // SAFETY: as in `begin`; `out` is a slice that is borrowed for writing.
@@ -82,6 +110,16 @@ pub fn step(file: &[u8], session: &mut [u8; SESSION], symbol: u8, out: &mut [u8]
 }
 
 /// The number, and the byte count.
+///
+/// ```
+/// use jermanuts::numbers;
+///
+/// # const G: &[u8] = include_bytes!(concat!(env!("CARGO_MANIFEST_DIR"), "/../../samples/g.table"));
+/// let (mut session, mut out) = ([0; jermanuts::SESSION], [0; jermanuts::OUT]);
+/// let mut work = [0; jermanuts::WORK];
+/// numbers::begin(G, &mut session);
+/// assert_eq!(numbers::step_in(G, &mut session, 7, &mut out, &mut work), (3, 0));
+/// ```
 pub fn step_in(
     file: &[u8],
     session: &mut [u8; SESSION],
@@ -107,6 +145,15 @@ pub fn step_in(
 }
 
 /// The number, and the byte count.
+///
+/// ```
+/// use jermanuts::numbers;
+///
+/// # const G: &[u8] = include_bytes!(concat!(env!("CARGO_MANIFEST_DIR"), "/../../samples/g.table"));
+/// let (mut session, mut out) = ([0; jermanuts::SESSION], [0; jermanuts::OUT]);
+/// numbers::begin(G, &mut session);
+/// assert_eq!(numbers::finish(G, &session, &mut out), (12, 0));
+/// ```
 pub fn finish(file: &[u8], session: &[u8; SESSION], out: &mut [u8]) -> (u32, usize) {
     let mut count = 0;
     // SAFETY: as in `step`; the session is only read.
@@ -123,8 +170,16 @@ pub fn finish(file: &[u8], session: &[u8; SESSION], out: &mut [u8]) -> (u32, usi
     (number, count)
 }
 
-/// The number, and the byte count. Which table is bad is not handed on: both were checked.
-pub fn join(first: &[u8], second: &[u8], out: &mut [u8]) -> (u32, usize) {
+/// The number, the table that is bad (1 or 2; 0 where none is), and the byte count.
+///
+/// ```
+/// use jermanuts::numbers;
+///
+/// # const G: &[u8] = include_bytes!(concat!(env!("CARGO_MANIFEST_DIR"), "/../../samples/g.table"));
+/// let mut out = [0; jermanuts::FILE];
+/// assert_eq!(numbers::join(G, b"no rule file", &mut out), (1, 2, 0));
+/// ```
+pub fn join(first: &[u8], second: &[u8], out: &mut [u8]) -> (u32, u32, usize) {
     let mut which = 0;
     let mut count = 0;
     // SAFETY: three slices; `out`, `which` and `count` are borrowed for writing, so they overlap
@@ -141,5 +196,5 @@ pub fn join(first: &[u8], second: &[u8], out: &mut [u8]) -> (u32, usize) {
             &mut count,
         )
     };
-    (number, count)
+    (number, which, count)
 }
