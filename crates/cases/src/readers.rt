@@ -42,8 +42,12 @@ fn show_body(file: &[u8])
     say(b"starting states", sets::size(starting) as u64);
     say(b"final set", table::final_set(file));
     say(b"rows", table::row_count(file) as u64);
-    say(b"first row of 10", table::first_row(file, 10) as u64);
-    say(b"first row of 13", table::first_row(file, 13) as u64);
+    say(b"first row of 10", table::first_row(file, 10, 0) as u64);
+    say(b"first row of 13", table::first_row(file, 13, 0) as u64);
+    say(
+        b"first row of 1 from 2",
+        table::first_row(file, 1, 2) as u64,
+    );
 }
 
 // The rows of a file, if it is good.

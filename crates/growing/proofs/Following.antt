@@ -4,7 +4,7 @@ use mathlib.Core.Bool.{Bool, true, false, cond, _&&_}
 use mathlib.Core.List.{List, [], _∷_, _++_, List·Memᴰ·head}
 use Prim.Native.Nat.{ℕ, _+_, _<_, _≤_}
 use native.Mathlib.Omega.{arith}
-use borrow.Author.Tests.{eq-eqb, ne-eqb}
+use borrow.Author.Tests.{eq-eqb, ne-eqb, eqb-true}
 use lib.Dec.{eqb}
 use lib.ListN.{length}
 use Rattle.words.specs.Lists.{each, only, upTo}
@@ -13,6 +13,7 @@ use Rattle.meaning.specs.Table.{Class, unused, call, return, internal, Row}
 use Rattle.meaning.specs.Trails.{Link}
 use Rattle.table.specs.File.{byte, rowCount, wordOf, rowAt, tableOf}
 use Rattle.table.specs.Calls.{FirstRow}
+use Rattle.table.proofs.Symbols.{none-before}
 use Rattle.table.proofs.Stands.{rows-of}
 use Rattle.standing.specs.Sessions.{Entry, entry}
 use Rattle.standing.specs.Bytes.{linkStart, pieceRoom, countOf, lengthAt, linkAt, pieceAt, entryAt, sessionOf}
@@ -122,7 +123,8 @@ nothing true l = refl
 nothing false l = refl
 
 module _ (file session : List ℕ) (a i : ℕ) where
-  -- what follows by a row where the link is at the depth and the row has the symbol; else nothing
+  -- what follows by a row where the link is at the depth and the row has the symbol; nothing where that is not so, or
+  -- the row is from another state
   pub by-class : (r : ℕ) {k : Class} → k ≡ tableOf file .class a → linkAt session i .level ≡ byte session 0
       → rowAt file r .symbol ≡ a → byClass file session k i r ≡ byRow file session a i r
   by-class r e l s =
@@ -131,12 +133,29 @@ module _ (file session : List ℕ) (a i : ℕ) where
   by-lower : (r : ℕ) → (linkAt session i .level ≡ byte session 0 → ⊥) → byRow file session a i r ≡ []
   by-lower r f = rw (ne-eqb (linkAt session i .level) (byte session 0) f)
 
-  by-other : (r : ℕ) → (rowAt file r .symbol ≡ a → ⊥) → byRow file session a i r ≡ []
-  by-other r f =
-      rw (ne-eqb (rowAt file r .symbol) a f)
-      (nothing (eqb (linkAt session i .level) (byte session 0)) (after file session (tableOf file .class a) i r))
+  not-taken : (r : ℕ) → (rowAt file r .symbol ≡ a → rowAt file r .from ≡ linkAt session i .here .state → ⊥)
+      → (eqb (rowAt file r .symbol) a && fitsLink (tableOf file .class a) (rowAt file r) (linkAt session i)) ≡ false
+  not-taken r f = go (eqb (rowAt file r .symbol) a) refl
+    where
+      fits : Bool
+      fits = fitsLink (tableOf file .class a) (rowAt file r) (linkAt session i)
 
-  -- the rows one after the other: those before the first of the symbol and behind the last give nothing
+      go : (b : Bool) → eqb (rowAt file r .symbol) a ≡ b → (b && fits) ≡ false
+      go true e =
+          sym
+          (fits-not (tableOf file .class a) (rowAt file r) (linkAt session i)
+          (λ h. f (eqb-true (rowAt file r .symbol) a e) (sym h)))
+      go false e = refl
+
+  by-other : (r : ℕ) → (rowAt file r .symbol ≡ a → rowAt file r .from ≡ linkAt session i .here .state → ⊥)
+      → byRow file session a i r ≡ []
+  by-other r f =
+      let rest = after file session (tableOf file .class a) i r in
+      let high = eqb (linkAt session i .level) (byte session 0) in
+      ap (λ (b : Bool). cond (high && b) rest []) (not-taken r f) ∙ nothing high rest
+
+  -- the rows one after the other: those before the first of the symbol from the link's state and behind the last give
+  -- nothing
   pub rows-none : (linkAt session i .level ≡ byte session 0 → ⊥) → [] ≡ byRows file session a i
   unfolding byRows
   rows-none f = each-same (byRow file session a i) 0 (rowCount file) (omega arith) (λ k l m. by-lower k f)
@@ -146,17 +165,20 @@ module _ (file session : List ℕ) (a i : ℕ) where
   unfolding byRows
   rows-fitting r l f = fitting-one (byRow file session a i) r l f
 
-  pub rows-start : {r : ℕ} {work order : List ℕ} {g : Growth} → FirstRow file a r
-      → Passing (byRow file session a i) work order g r work order g
-  rows-start {r} f =
-      passing-skip passing-start r (omega arith) (λ k l m. by-other k (λ e. omega (arith, f .before k m)))
+  module _ {q : ℕ} (here : q ≡ linkAt session i .here .state) where
+    pub rows-start : {r : ℕ} {work order : List ℕ} {g : Growth} → FirstRow file a q r
+        → Passing (byRow file session a i) work order g r work order g
+    rows-start {r} f =
+        passing-skip passing-start r (omega arith)
+        (λ k l m. by-other k (λ s t. none-before f k m s (t ∙ sym here)))
 
-  pub rows-end : {r : ℕ} {work order work′ order′ : List ℕ} {g g′ : Growth}
-      → Passing (byRow file session a i) work order g r work′ order′ g′ → r ≤ rowCount file
-      → ((k : ℕ) → r ≤ k → k < rowCount file → rowAt file k .symbol ≡ a → ⊥)
-      → Gathers (byRows file session a i) work order g g′ work′ order′
-  unfolding byRows
-  rows-end p l h = passing-skip p (rowCount file) l (λ k m n. by-other k (h k m n)) .made
+    pub rows-end : {r : ℕ} {work order work′ order′ : List ℕ} {g g′ : Growth}
+        → Passing (byRow file session a i) work order g r work′ order′ g′ → r ≤ rowCount file
+        → ((k : ℕ) → r ≤ k → k < rowCount file → rowAt file k .symbol ≡ a → rowAt file k .from ≡ q → ⊥)
+        → Gathers (byRows file session a i) work order g g′ work′ order′
+    unfolding byRows
+    rows-end p l h =
+        passing-skip p (rowCount file) l (λ k m n. by-other k (λ s t. h k m n s (t ∙ sym here))) .made
 
 -- growing goes through all links, and through all rows for each
 module _ (file session : List ℕ) (a : ℕ) where

@@ -246,7 +246,7 @@ fn by_row(
     growth
 }
 
-// What follows a link on a symbol, if it is at the depth. The rows of a symbol stand side by side.
+// What follows a link on a symbol, if it is at the depth. The rows of a symbol from a state stand side by side.
 fn by_rows(
     file: &[u8],
     session: &[u8; SIZE],
@@ -266,10 +266,14 @@ fn by_rows(
     }
     let class = table::class_of(file, symbol);
     let n = table::row_count(file);
+    let state = places::state(session, i);
     let mut grown = growth;
-    let mut r = table::first_row(file, symbol);
+    let mut r = table::first_row(file, symbol, state);
     while r < n {
         if table::row_symbol(file, r) != wide(symbol) {
+            return grown;
+        }
+        if table::row_from(file, r) != state {
             return grown;
         }
         grown = by_row(file, session, class, i, r, work, order, grown);

@@ -1,12 +1,12 @@
 -- What a reading finds, row by row: the rows of the word's first byte, and the readings that go on from there. Assumes
 -- nothing.
 use mathlib.Core.Path.{_≡_, refl, sym, _∙_, ap}
-use mathlib.Core.Bool.{cond}
+use mathlib.Core.Bool.{Bool, true, false, cond}
 use mathlib.Core.Logic.{_↔_}
 use mathlib.Core.List.{List, [], _∷_, append-nil}
 use Prim.Native.Nat.{ℕ, suc, _-_, _<_, _≤_}
 use native.Mathlib.Omega.{arith}
-use borrow.Author.Tests.{eq-eqb, ne-eqb}
+use borrow.Author.Tests.{eq-eqb, ne-eqb, eqb-true}
 use lib.Dec.{eqb}
 use lib.ListN.{length, getD, take, drop}
 use lib.Seq.{take-all}
@@ -19,6 +19,7 @@ use Rattle.meaning.specs.Joining.{taken, endings}
 use Rattle.meaning.proofs.Reading.{endings-exact}
 use Rattle.table.specs.File.{rowCount, rowAt, tableOf}
 use Rattle.table.specs.Calls.{FirstRow}
+use Rattle.table.proofs.Symbols.{none-before}
 use Rattle.table.proofs.Stands.{rows-of}
 use Rattle.shelf.specs.Shelved.{Gathers}
 use Rattle.shelf.specs.declared.Shelf.{Shelf}
@@ -73,13 +74,20 @@ module _ (second : List ℕ) (marks : List Word) (goal : Goal) where
     abbrev step : Row → List Config
     step r = cond (eqb (r .symbol) a) (taken (tableOf second .class a) r c) []
 
-    -- by a row that has the symbol, and by another
+    -- by a row that has the symbol; nothing by another, or from another state
     pub by-class : (r : ℕ) {k : Class} {d : Config} → k ≡ tableOf second .class a → rowAt second r .symbol ≡ a → d ≡ c
         → findingsOf second marks goal v (taken k (rowAt second r) d) ≡ byRow second marks goal a v c r
     by-class r e s f = rw (e, f, eq-eqb (rowAt second r .symbol) a s) refl
 
-    by-other : (r : ℕ) → (rowAt second r .symbol ≡ a → ⊥) → byRow second marks goal a v c r ≡ []
-    by-other r f = rw (ne-eqb (rowAt second r .symbol) a f) refl
+    by-other : (r : ℕ) → (rowAt second r .symbol ≡ a → rowAt second r .from ≡ c .state → ⊥)
+        → byRow second marks goal a v c r ≡ []
+    by-other r f = ap (findingsOf second marks goal v) (go (eqb (rowAt second r .symbol) a) refl)
+      where
+        go : (b : Bool) → eqb (rowAt second r .symbol) a ≡ b
+            → cond b (taken (tableOf second .class a) (rowAt second r) c) [] ≡ []
+        go true e =
+            rw (ne-eqb (c .state) (rowAt second r .from) (λ h. f (eqb-true (rowAt second r .symbol) a e) (sym h))) refl
+        go false e = refl
 
     -- all rows
     by-rows : each (byRow second marks goal a v c) (upTo (rowCount second)) ≡ findings second marks goal (a ∷ v) c
@@ -90,14 +98,14 @@ module _ (second : List ℕ) (marks : List Word) (goal : Goal) where
         ∙ (λ i. each (λ r. each-each (keysOf marks goal) (endings (tableOf second) v) (step r) i) (rows-of second i))
         ∙ each-map (λ r. findingsOf second marks goal v (step r)) (rowAt second) (upTo (rowCount second)))
 
-    pub rows-start : {r : ℕ} {arena starts order : List ℕ} {s : Shelf} → FirstRow second a r
+    pub rows-start : {r : ℕ} {arena starts order : List ℕ} {s : Shelf} → FirstRow second a (c .state) r
         → Passing (byRow second marks goal a v c) arena starts order s r arena starts order s
     rows-start {r} f =
-        passing-skip passing-start r (omega arith) (λ k l m. by-other k (λ e. omega (arith, f .before k m)))
+        passing-skip passing-start r (omega arith) (λ k l m. by-other k (none-before f k m))
 
     pub rows-end : {w : Word} {r : ℕ} {arena starts order arena′ starts′ order′ : List ℕ} {s s′ : Shelf} → w ≡ a ∷ v
         → Passing (byRow second marks goal a v c) arena starts order s r arena′ starts′ order′ s′ → r ≤ rowCount second
-        → ((k : ℕ) → r ≤ k → k < rowCount second → rowAt second k .symbol ≡ a → ⊥)
+        → ((k : ℕ) → r ≤ k → k < rowCount second → rowAt second k .symbol ≡ a → rowAt second k .from ≡ c .state → ⊥)
         → Gathers (findings second marks goal w c) arena starts order s s′ arena′ starts′ order′
     rows-end e p l h =
         rw (e, ← by-rows) (passing-skip p (rowCount second) l (λ k m n. by-other k (h k m n)) .made)

@@ -358,7 +358,7 @@ pub fn read(
     )
 }
 
-// The same of a word that is not empty, by each row of its first byte.
+// The same of a word that is not empty, by each row of its first byte from the state.
 fn read_on(
     second: &[u8],
     word: &[u8],
@@ -395,9 +395,12 @@ fn read_on(
     let class = table::class_of(second, symbol);
     let n = table::row_count(second);
     let mut made = shelf;
-    let mut r = table::first_row(second, symbol);
+    let mut r = table::first_row(second, symbol, state);
     while r < n {
         if table::row_symbol(second, r) != wide(symbol) {
+            return made;
+        }
+        if table::row_from(second, r) != state {
             return made;
         }
         made = branch(

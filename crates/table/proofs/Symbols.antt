@@ -1,4 +1,5 @@
--- Rows rise by symbol, so that halving finds the first row of one. Assumes nothing.
+-- Rows rise by symbol and then by `from`, so that halving finds the first of a symbol from a state, and all of them
+-- stand side by side. Assumes nothing.
 use mathlib.Core.Path.{_≡_}
 use mathlib.Core.Logic.{_⊎_, inl, inr}
 use mathlib.Core.List.{List}
@@ -6,23 +7,25 @@ use Prim.Native.Nat.{ℕ, zero, suc, _+_, _-_, _<_, _≤_}
 use native.Mathlib.Nat.{eq-zero-or-pos}
 use native.Mathlib.Numerals.{add-one}
 use native.Mathlib.Omega.{arith}
+use Rattle.words.specs.Order.{Less}
+use Rattle.meaning.specs.Table.{Row, rowKey}
 use Rattle.table.specs.File.{rowCount, rowAt}
 use Rattle.table.specs.Good.{Rows}
-use Rattle.table.specs.Calls.{FirstRow}
+use Rattle.table.specs.Calls.{Before, FirstRow}
 
 first-up : {x y : ℕ} {Q : Type 0} → (x < y) ⊎ ((x ≡ y) × Q) → x ≤ y
 first-up (inl h) = omega arith
 first-up (inr h) = let e = h .0 in omega arith
 
--- the first row of a symbol lies from `low` to `high`
-pub record Between (file : List ℕ) (a low high : ℕ) : Type 0 where
+-- the first row of a symbol from a state lies from `low` to `high`
+pub record Between (file : List ℕ) (a q low high : ℕ) : Type 0 where
   pub ordered : low ≤ high
   pub within : high ≤ rowCount file
-  pub before : (k : ℕ) → k < low → rowAt file k .symbol < a
-  pub onward : (k : ℕ) → high ≤ k → k < rowCount file → a ≤ rowAt file k .symbol
+  pub before : (k : ℕ) → k < low → Before (rowAt file k) a q
+  pub onward : (k : ℕ) → high ≤ k → k < rowCount file → Before (rowAt file k) a q → ⊥
 
-pub between-all : (file : List ℕ) (a : ℕ) → Between file a 0 (rowCount file)
-between-all file a =
+pub between-all : (file : List ℕ) (a q : ℕ) → Between file a q 0 (rowCount file)
+between-all file a q =
     record {
       ordered = omega arith;
       within = omega arith;
@@ -30,44 +33,71 @@ between-all file a =
       onward = λ k l m. absurd (omega arith);
     }
 
+-- a row stands before all that a higher one stands before
+less-before : {x y : Row} {a q : ℕ} → Less (rowKey x) (rowKey y) → Before y a q → Before x a q
+less-before (inl h) b =
+    let s = b .symbols in
+    record { symbols = omega arith; froms = λ e. absurd (omega arith) }
+less-before (inr h) b =
+    let s = b .symbols in
+    let e = h .0 in
+    let u = first-up (h .1) in
+    record { symbols = omega arith; froms = λ f. let l = b .froms (omega arith) in omega arith }
+
 module _ (file : List ℕ) (rows : Rows file) where
-  pub symbols-up : (m k : ℕ) → k ≤ m → m < rowCount file → rowAt file k .symbol ≤ rowAt file m .symbol
-  symbols-up zero k h l = let e : k ≡ 0 = omega arith in rw e (omega arith)
-  symbols-up (suc m) k h l = go (eq-zero-or-pos (suc m - k)) (symbols-up m k)
+  before-up : {a q : ℕ} (m k : ℕ) → k ≤ m → m < rowCount file → Before (rowAt file m) a q
+      → Before (rowAt file k) a q
+  before-up zero k h l b = let e : k ≡ 0 = omega arith in rw e b
+  before-up {a} {q} (suc m) k h l b = go (eq-zero-or-pos (suc m - k)) (before-up m k)
     where
-      next : rowAt file m .symbol ≤ rowAt file (suc m) .symbol
-      next = rw add-one at (first-up (rows .rise m (omega arith) .less))
+      next : Before (rowAt file m) a q
+      next = less-before (rw add-one at (rows .rise m (omega arith) .less)) b
 
-      go : (suc m - k ≡ 0) ⊎ (0 < suc m - k) → (k ≤ m → m < rowCount file → rowAt file k .symbol ≤ rowAt file m .symbol)
-          → rowAt file k .symbol ≤ rowAt file (suc m) .symbol
-      go (inl e) ih = let f : k ≡ suc m = omega arith in rw f (omega arith)
-      go (inr p) ih = let h = ih (omega arith) (omega arith) in let n = next in omega arith
+      go : (suc m - k ≡ 0) ⊎ (0 < suc m - k)
+          → (k ≤ m → m < rowCount file → Before (rowAt file m) a q → Before (rowAt file k) a q)
+          → Before (rowAt file k) a q
+      go (inl e) ih = let f : k ≡ suc m = omega arith in rw f b
+      go (inr p) ih = ih (omega arith) (omega arith) next
 
-  module _ {a low high : ℕ} (b : Between file a low high) (m : ℕ) (l : low ≤ m) (h : m < high) where
-    pub between-up : rowAt file m .symbol < a → Between file a (m + 1) high
+  module _ {a q low high : ℕ} (b : Between file a q low high) (m : ℕ) (l : low ≤ m) (h : m < high) where
+    pub between-up : Before (rowAt file m) a q → Between file a q (m + 1) high
     between-up s =
         record {
           ordered = omega arith;
           within = b .within;
-          before = λ k n.
-              let u = symbols-up m k (omega arith) (let w = b .within in omega arith) in
-              omega arith;
+          before = λ k n. before-up m k (omega arith) (let w = b .within in omega arith) s;
           onward = b .onward;
         }
 
-    pub between-down : a ≤ rowAt file m .symbol → Between file a low m
+    pub between-down : (Before (rowAt file m) a q → ⊥) → Between file a q low m
     between-down s =
         record {
           ordered = l;
           within = let w = b .within in omega arith;
           before = b .before;
-          onward = λ k n w. let u = symbols-up k m n w in omega arith;
+          onward = λ k n w t. s (before-up k m n w t);
         }
 
-pub between-one : {file : List ℕ} {a low high : ℕ} → Between file a low high → high ≤ low → FirstRow file a low
+  -- behind the first, and behind one that is not of the symbol from the state, there is none
+  pub none-behind : {a q n r : ℕ} → FirstRow file a q n → n ≤ r → r < rowCount file
+      → (rowAt file r .symbol ≡ a → rowAt file r .from ≡ q → ⊥)
+      → (k : ℕ) → r ≤ k → k < rowCount file → rowAt file k .symbol ≡ a → rowAt file k .from ≡ q → ⊥
+  none-behind {a} {q} {n} {r} f l m other k u w s t =
+      let b : Before (rowAt file r) a (q + 1) =
+      before-up k r u w (record { symbols = omega arith; froms = λ e. omega arith }) in
+      f .onward r l m
+      (record { symbols = b .symbols; froms = λ e. let d = other e in let h = b .froms e in omega arith })
+
+pub between-one : {file : List ℕ} {a q low high : ℕ} → Between file a q low high → high ≤ low
+    → FirstRow file a q low
 between-one b h =
     record {
       within = let w = b .within in let o = b .ordered in omega arith;
       before = b .before;
       onward = λ k l. b .onward k (omega arith);
     }
+
+-- no row before the first is of the symbol from the state
+pub none-before : {file : List ℕ} {a q n : ℕ} → FirstRow file a q n → (k : ℕ) → k < n → rowAt file k .symbol ≡ a
+    → rowAt file k .from ≡ q → ⊥
+none-before f k l s t = let b = f .before k l .froms s in omega arith

@@ -42,14 +42,12 @@ meant-unique r q e = LeftInverse·injective back meant back-is r q e
     back-is Internal = refl
 
 -- and two of `first_row`
-pub first-row-unique : (file : List ℕ) (symbol r q : ℕ) → FirstRow file symbol r → FirstRow file symbol q → r ≡ q
-first-row-unique file symbol r q f g = go (eq-zero-or-pos (q - r)) (eq-zero-or-pos (r - q))
+pub first-row-unique : (file : List ℕ) (symbol from r q : ℕ) → FirstRow file symbol from r
+    → FirstRow file symbol from q → r ≡ q
+first-row-unique file symbol from r q f g = go (eq-zero-or-pos (q - r)) (eq-zero-or-pos (r - q))
   where
-    apart : (r q : ℕ) → FirstRow file symbol r → FirstRow file symbol q → r < q → ⊥
-    apart r q f g l =
-        let a = g .before r l in
-        let b = f .onward r (omega arith) (let w = g .within in omega arith) in
-        omega arith
+    apart : (r q : ℕ) → FirstRow file symbol from r → FirstRow file symbol from q → r < q → ⊥
+    apart r q f g l = f .onward r (omega arith) (let w = g .within in omega arith) (g .before r l)
 
     go : (q - r ≡ 0) ⊎ (0 < q - r) → (r - q ≡ 0) ⊎ (0 < r - q) → r ≡ q
     go (inl d) (inl e) = omega arith

@@ -22,11 +22,16 @@ meant Call = call
 meant Return = return
 meant Internal = internal
 
--- rows before `r` have lower symbols, those from there on have this one or higher
-pub record FirstRow (file : List ℕ) (symbol r : ℕ) : Type 0 where
+-- "Rows rise strictly by symbol, from, …": a row that stands before those of a symbol from a state
+pub record Before (x : Row) (symbol from : ℕ) : Type 0 where
+  pub symbols : x .symbol ≤ symbol
+  pub froms : x .symbol ≡ symbol → x .from < from
+
+-- exactly the rows below `r` stand before those of a symbol from a state
+pub record FirstRow (file : List ℕ) (symbol from r : ℕ) : Type 0 where
   pub within : r ≤ rowCount file
-  pub before : (k : ℕ) → k < r → rowAt file k .symbol < symbol
-  pub onward : (k : ℕ) → r ≤ k → k < rowCount file → symbol ≤ rowAt file k .symbol
+  pub before : (k : ℕ) → k < r → Before (rowAt file k) symbol from
+  pub onward : (k : ℕ) → r ≤ k → k < rowCount file → Before (rowAt file k) symbol from → ⊥
 
 -- what functions inside ask: that a row, and its word, stand in the file
 abbrev pub RowIn : List ℕ → ℕ → Type 0

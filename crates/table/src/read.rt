@@ -4,10 +4,11 @@ use crate::load::load_two;
 use words::wide;
 ghost use mathlib.Core.Path.{_≡_};
 ghost use Prim.Native.Nat.{_<_};
+ghost use Rattle.words.specs.Lists.{Exact};
 ghost use Rattle.table.specs.File.{rowCount, rowAt, wordOf, tableOf};
 ghost use Rattle.sets.specs.Sets.{members};
 ghost use Rattle.table.specs.Good.{first, Good};
-ghost use Rattle.table.specs.Calls.{meant, WordIn, FirstRow};
+ghost use Rattle.table.specs.Calls.{meant, WordIn, Before, FirstRow};
 
 pub fn states(file: &[u8]) -> usize
     requires { ⌜ Good first (now file) ⌝ }
@@ -121,17 +122,29 @@ pub fn row_word(file: &[u8], i: usize) -> &[u8]
     &file[start..end]
 }
 
-// The place of the first row with this symbol or a higher one: rows rise by symbol, so that halving finds it.
-pub fn first_row(file: &[u8], symbol: u8) -> usize
-    requires { ⌜ Good first (now file) ⌝ }
-    ensures { λ r. ⌜ FirstRow (now (file .entry)) symbol r ⌝ }
+// Whether a row stands before those of a symbol from a state.
+fn row_before(file: &[u8], i: usize, symbol: u8, from: usize) -> bool
+    requires { ⌜ (Good first (now file)) × (i < rowCount (now file)) ⌝ }
+    ensures { λ r. ⌜ Exact (Before (rowAt (now (file .entry)) i) symbol from) r ⌝ }
 {
-    let a = wide(symbol);
+    let a = row_symbol(file, i);
+    if a != wide(symbol) {
+        return a < wide(symbol);
+    }
+    row_from(file, i) < from
+}
+
+// The place of the first row of a symbol from a state, or where it would stand: rows rise by symbol and then by `from`,
+// so that halving finds it.
+pub fn first_row(file: &[u8], symbol: u8, from: usize) -> usize
+    requires { ⌜ Good first (now file) ⌝ }
+    ensures { λ r. ⌜ FirstRow (now (file .entry)) symbol from r ⌝ }
+{
     let mut low = 0;
     let mut high = row_count(file);
     while low < high {
         let middle = low + (high - low) / 2;
-        if row_symbol(file, middle) < a {
+        if row_before(file, middle, symbol, from) {
             low = middle + 1;
         } else {
             high = middle;

@@ -2,10 +2,10 @@
 use mathlib.Core.Path.{_≡_, sym}
 use Prim.Native.Nat.{_-_, _<_, _≤_}
 use native.Mathlib.Omega.{arith}
-use Rattle.table.specs.File.{rowCount}
+use Rattle.table.specs.File.{rowCount, rowAt}
 use Rattle.table.specs.Calls.{meant}
-use Rattle.table.proofs.Symbols.{symbols-up}
-use Rattle.growing.specs.Growing.{byClass, byRow}
+use Rattle.table.proofs.Symbols.{none-behind}
+use Rattle.growing.specs.Growing.{Gathers, byClass, byRow, byRows}
 use Rattle.growing.proofs.Gathering.{Passing, passing-ready, passing-next, gathers-none, gathers-as, fitting-as}
 use Rattle.growing.proofs.Following.{by-class, rows-none, rows-start, rows-end, rows-fitting}
 use borrow.Author.Needs.{needs}
@@ -13,11 +13,11 @@ use Rattle.growing.proofs.growth.by_rows.Statement.{statement}
 use Rattle.growing.proofs.growth.by_rows.Tie as tie
 
 abbrev Inv-loop : tie.InvT-loop
-Inv-loop file session symbol i work₀ order₀ class n grown₀ r₀ work order grown r =
+Inv-loop file session symbol i work₀ order₀ class n state grown₀ r₀ work order grown r =
     (r₀ ≤ r) × (r ≤ n) × Passing (byRow file session symbol i) work₀ order₀ grown₀ r work order grown
 
 abbrev μ-loop : tie.MeasureT-loop
-μ-loop file session symbol i work₀ order₀ class n grown₀ r₀ work order grown r = n - r
+μ-loop file session symbol i work₀ order₀ class n state grown₀ r₀ work order grown r = n - r
 
 level-requires : tie.Need-level-requires Inv-loop μ-loop
 level-requires c κs = search needs
@@ -36,14 +36,20 @@ class-of-requires c κs = search needs
 row-count-requires : tie.Need-row-count-requires Inv-loop μ-loop
 row-count-requires c κs = search needs
 
+state-requires : tie.Need-state-requires Inv-loop μ-loop
+state-requires c κs = search needs
+
 first-row-requires : tie.Need-first-row-requires Inv-loop μ-loop
 first-row-requires c κs = search needs
 
 loop-holds : tie.Need-loop-holds Inv-loop μ-loop
 loop-holds c =
-    let a = c .before .before .before .before .before .before .before .args in
-    let first = c .first-row .ensures in
-    (omega arith, omega (arith, first .within), rows-start (a .file .now) (a .session .now) (a .symbol) (a .i) first)
+    let a = c .before .before .before .before .before .before .before .before .args in
+    let first = c .first-row .ensures in (
+      omega arith,
+      omega (arith, first .within),
+      rows-start (a .file .now) (a .session .now) (a .symbol) (a .i) (c .before .state .ensures .0) first,
+    )
 
 row-symbol-requires : tie.Need-row-symbol-requires Inv-loop μ-loop
 row-symbol-requires c κs = search needs
@@ -51,49 +57,65 @@ row-symbol-requires c κs = search needs
 wide-requires : tie.Need-wide-requires Inv-loop μ-loop
 wide-requires c κs = search needs
 
-returns-2 : tie.Need-returns-2 Inv-loop μ-loop
-returns-2 c =
-    let at-loop = c .before .before .before .before in
-    let start = at-loop .before .before .before .before .before .before .before .before in
-    let a = start .args in
-    let first = at-loop .before .first-row .ensures in
-    rows-end (a .file .now) (a .session .now) (a .symbol) (a .i) (at-loop .loop .inv .2) (omega arith)
-    (λ k l m e.
-    omega (
-      arith,
-      first .onward (at-loop .loop .r) (omega arith) (omega arith),
-      symbols-up (a .file .now) (start .pre .0 .0 .good .rows) k (at-loop .loop .r) l m,
-    ))
-
 within : (c : tie.In-loop Inv-loop μ-loop)
-    → let start = c .before .before .before .before .before .before .before .before .before in
+    → let start = c .before .before .before .before .before .before .before .before .before .before in
     c .before .loop .r < rowCount (start .args .file .now)
-within c = omega (arith, c .before .before .before .row-count .ensures)
+within c = omega (arith, c .before .before .before .before .row-count .ensures)
+
+-- at a row that is not of the symbol from the state, all such rows are passed
+stopped : (c : tie.In-loop Inv-loop μ-loop)
+    → let at-loop = c .before in
+    let known = at-loop .before .before in
+    let a = known .before .before .before .before .before .before .before .args in
+    let r = rowAt (a .file .now) (at-loop .loop .r) in
+    (r .symbol ≡ a .symbol → r .from ≡ known .state .result → ⊥)
+    → Gathers (byRows (a .file .now) (a .session .now) (a .symbol) (a .i)) (a .work .now) (a .order .now) (a .growth)
+    (at-loop .loop .grown) (at-loop .loop .work) (at-loop .loop .order)
+stopped c other =
+    let at-loop = c .before in
+    let known = at-loop .before .before in
+    let start = known .before .before .before .before .before .before .before in
+    let a = start .args in
+    rows-end (a .file .now) (a .session .now) (a .symbol) (a .i) (known .state .ensures .0) (at-loop .loop .inv .2)
+    (omega arith)
+    (none-behind (a .file .now) (start .pre .0 .0 .good .rows) (at-loop .before .first-row .ensures)
+    (at-loop .loop .inv .0) (within c) other)
+
+returns-2 : tie.Need-returns-2 Inv-loop μ-loop
+returns-2 c = stopped (c .before .before .before) (λ s t. omega arith)
+
+row-from-requires : tie.Need-row-from-requires Inv-loop μ-loop
+row-from-requires c κs = search needs
+
+returns-3 : tie.Need-returns-3 Inv-loop μ-loop
+returns-3 c = stopped (c .before .before .before .before .before) (λ s t. omega arith)
 
 -- the row has the symbol
 taken : (c : tie.Else2 Inv-loop μ-loop)
     → let at-loop = c .before .before .before .before in
-    let class = at-loop .before .before .before in
+    let class = at-loop .before .before .before .before in
     let a = class .before .before .before .before .before .args in
     byClass (a .file .now) (a .session .now) (meant (class .class-of .result)) (a .i) (at-loop .loop .r)
     ≡ byRow (a .file .now) (a .session .now) (a .symbol) (a .i) (at-loop .loop .r)
 taken c =
     let at-loop = c .before .before .before .before in
-    let class = at-loop .before .before .before in
+    let class = at-loop .before .before .before .before in
     let a = class .before .before .before .before .before .args in
     by-class (a .file .now) (a .session .now) (a .symbol) (a .i) (at-loop .loop .r) (class .class-of .ensures)
     (omega arith) (omega arith)
 
 by-row-requires : tie.Need-by-row-requires Inv-loop μ-loop
 by-row-requires c κs =
-    let at-loop = c .before .before .before .before .before .before in
-    let start = at-loop .before .before .before .before .before .before .before .before in
+    let has = c .before .before .before .before in
+    let in-loop = has .before .before .before in
+    let at-loop = in-loop .before in
+    let start = at-loop .before .before .before .before .before .before .before .before .before in
     let a = start .args in
     let pre = start .pre in
-    let l = within (c .before .before .before .before .before) in
+    let l = within in-loop in
     let fitting = rows-fitting (a .file .now) (a .session .now) (a .symbol) (a .i) (at-loop .loop .r) l (pre .1 .1) in (
       (pre .0 .0, pre .0 .1, l),
-      (passing-ready (at-loop .loop .inv .2) (pre .1 .0), fitting-as fitting (sym (taken (c .before .before)))),
+      (passing-ready (at-loop .loop .inv .2) (pre .1 .0), fitting-as fitting (sym (taken has))),
     )
 
 add-r : tie.Need-add-r Inv-loop μ-loop
@@ -104,16 +126,18 @@ loop-less c = search needs
 
 loop-again : tie.Need-loop-again Inv-loop μ-loop
 loop-again c =
-    let made = gathers-as (c .by-row .ensures) (taken (c .before .before .before)) in
-    let passed = c .before .before .before .before .before .before .before .loop .inv .2 in
+    let has = c .before .before .before .before .before in
+    let made = gathers-as (c .by-row .ensures) (taken has) in
+    let passed = has .before .before .before .before .loop .inv .2 in
     (omega arith, omega arith, passing-next passed made)
 
-returns-3 : tie.Need-returns-3 Inv-loop μ-loop
-returns-3 c =
+returns-4 : tie.Need-returns-4 Inv-loop μ-loop
+returns-4 c =
     let at-loop = c .before in
-    let a = at-loop .before .before .before .before .before .before .before .before .args in
-    rows-end (a .file .now) (a .session .now) (a .symbol) (a .i) (at-loop .loop .inv .2) (omega arith)
-    (λ k l m. absurd (omega arith))
+    let known = at-loop .before .before in
+    let a = known .before .before .before .before .before .before .before .args in
+    rows-end (a .file .now) (a .session .now) (a .symbol) (a .i) (known .state .ensures .0) (at-loop .loop .inv .2)
+    (omega arith) (λ k l m. absurd (omega arith))
 
 pub by-rows-spec : {M : Type 1} → statement M
 by-rows-spec =
@@ -126,13 +150,16 @@ by-rows-spec =
     returns
     class-of-requires
     row-count-requires
+    state-requires
     first-row-requires
     loop-holds
     row-symbol-requires
     wide-requires
     returns-2
+    row-from-requires
+    returns-3
     by-row-requires
     add-r
     loop-less
     loop-again
-    returns-3)
+    returns-4)

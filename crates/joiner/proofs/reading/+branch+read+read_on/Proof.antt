@@ -12,10 +12,10 @@ use Rattle.meaning.specs.Runs.{Config}
 use Rattle.meaning.specs.Joining.{taken}
 use Rattle.table.specs.File.{rowCount, rowStart, rowAt}
 use Rattle.table.specs.Calls.{meant}
-use Rattle.table.proofs.Symbols.{symbols-up}
-use Rattle.shelf.specs.Shelved.{wordsOf}
+use Rattle.table.proofs.Symbols.{none-behind}
+use Rattle.shelf.specs.Shelved.{wordsOf, Gathers}
 use Rattle.shelf.proofs.Laws.{gathers-none, gathers-still, gathers-as}
-use Rattle.joiner.specs.Reading.{configOf, Fits, Untouched, findingsOf}
+use Rattle.joiner.specs.Reading.{configOf, Fits, Untouched, findings, findingsOf}
 use Rattle.joiner.proofs.Moves.{taken-none, moved, height-near, untouched, untouched-self, untouched-both}
 use Rattle.joiner.proofs.Moves.{untouched-config}
 use Rattle.joiner.proofs.Passing.{Passing, passing-ready, passing-next}
@@ -29,6 +29,7 @@ use Rattle.words.proofs.wide.Reads as wide-reads
 use Rattle.table.proofs.class_of.Reads as class-of-reads
 use Rattle.table.proofs.first_row.Reads as first-row-reads
 use Rattle.table.proofs.row_count.Reads as row-count-reads
+use Rattle.table.proofs.row_from.Reads as row-from-reads
 use Rattle.table.proofs.row_marker.Reads as row-marker-reads
 use Rattle.table.proofs.row_symbol.Reads as row-symbol-reads
 use Rattle.table.proofs.row_to.Reads as row-to-reads
@@ -115,6 +116,8 @@ on-calls t = (
   row-symbol-reads.Learnt,
   wide-reads.Asked,
   wide-reads.Learnt,
+  row-from-reads.Asked,
+  row-from-reads.Learnt,
   branch-below t,
   branch.Post,
 )
@@ -410,30 +413,50 @@ on-row-symbol-requires t c κs =
 on-wide-requires : (t : ℕ) → on-lts.Need-wide-requires (on-calls t) (on-at t) on.Post Inv-loop μ-loop
 on-wide-requires t c κs = search needs
 
-on-returns : (t : ℕ) → on-lts.Need-returns (on-calls t) (on-at t) on.Post Inv-loop μ-loop
-on-returns t c =
-    let at-loop = c .before .before .before .before in
+-- at a row that is not of the symbol from the state, all such rows are passed
+on-stopped : (t : ℕ) (c : on-lts.In-loop (on-calls t) (on-at t) on.Post Inv-loop μ-loop)
+    → let at-loop = c .before in
+    let known = loop-known t at-loop in
+    let a = on-start t known .args in
+    let x = rowAt (a .second .now) (at-loop .loop .r) in
+    (x .symbol ≡ on-symbol t known → x .from ≡ a .state → ⊥)
+    → Gathers (findings (a .second .now) (on-marks t known) (a .goal) (a .word .now) (on-from t known))
+    (a .arena .now) (a .starts .now) (a .order .now) (a .shelf)
+    (at-loop .loop .made) (at-loop .loop .arena) (at-loop .loop .starts) (at-loop .loop .order)
+on-stopped t c other =
+    let at-loop = c .before in
     let known = loop-known t at-loop in
     let start = on-start t known in
     let a = start .args in
-    let within = on-within t (c .before .before .before) in
-    let first = at-loop .before .first-row .ensures in (
-      rows-end (a .second .now) (on-marks t known) (a .goal) (on-symbol t known) (on-rest t known)
-          (on-from t known) (loop-word t at-loop) (at-loop .loop .inv .3) (omega (arith, within))
-          (λ k l m e.
-          omega (
-            arith,
-            first .onward (at-loop .loop .r) (omega arith) within,
-            symbols-up (a .second .now) (start .pre .1 .0 .0 .good .rows) k (at-loop .loop .r) l m,
-            c .before .wide .ensures,
-            c .before .before .row-symbol .ensures,
-          )),
-      at-loop .loop .inv .2,
+    let within = on-within t c in
+    rows-end (a .second .now) (on-marks t known) (a .goal) (on-symbol t known) (on-rest t known) (on-from t known)
+    (loop-word t at-loop) (at-loop .loop .inv .3) (omega (arith, within))
+    (none-behind (a .second .now) (start .pre .1 .0 .0 .good .rows) (at-loop .before .first-row .ensures)
+    (at-loop .loop .inv .0) within other)
+
+on-returns : (t : ℕ) → on-lts.Need-returns (on-calls t) (on-at t) on.Post Inv-loop μ-loop
+on-returns t c =
+    let in-loop = c .before .before .before in (
+      on-stopped t in-loop (λ s f. omega (arith, c .before .wide .ensures, c .before .before .row-symbol .ensures)),
+      in-loop .before .loop .inv .2,
+    )
+
+on-row-from-requires : (t : ℕ)
+    → on-lts.Need-row-from-requires (on-calls t) (on-at t) on.Post Inv-loop μ-loop
+on-row-from-requires t c κs =
+    let in-loop = c .before .before .before in
+    (on-start t (loop-known t (in-loop .before)) .pre .1 .0 .0 .good, on-within t in-loop)
+
+on-returns-2 : (t : ℕ) → on-lts.Need-returns-2 (on-calls t) (on-at t) on.Post Inv-loop μ-loop
+on-returns-2 t c =
+    let in-loop = c .before .before .before .before .before in (
+      on-stopped t in-loop (λ s f. omega (arith, c .before .row-from .ensures)),
+      in-loop .before .loop .inv .2,
     )
 
 on-branch-requires : (t : ℕ) → on-lts.Need-branch-requires (on-calls t) (on-at t) on.Post Inv-loop μ-loop
 on-branch-requires t c κs =
-    let else = c .before .before .before .before .before in
+    let else = c .before .before .before .before .before .before .before in
     let at-loop = else .before .before .before .before in
     let known = loop-known t at-loop in
     let start = on-start t known in
@@ -472,7 +495,7 @@ on-loop-less t c = search needs
 
 on-loop-again : (t : ℕ) → on-lts.Need-loop-again (on-calls t) (on-at t) on.Post Inv-loop μ-loop
 on-loop-again t c =
-    let else = c .before .before .before .before .before .before in
+    let else = c .before .before .before .before .before .before .before .before in
     let at-loop = else .before .before .before .before in
     let known = loop-known t at-loop in
     let a = on-start t known .args in (
@@ -486,8 +509,8 @@ on-loop-again t c =
           (untouched-config (a .state) (a .height) (at-loop .loop .inv .2)))),
     )
 
-on-returns-2 : (t : ℕ) → on-lts.Need-returns-2 (on-calls t) (on-at t) on.Post Inv-loop μ-loop
-on-returns-2 t c =
+on-returns-3 : (t : ℕ) → on-lts.Need-returns-3 (on-calls t) (on-at t) on.Post Inv-loop μ-loop
+on-returns-3 t c =
     let at-loop = c .before in
     let known = loop-known t at-loop in
     let a = on-start t known .args in (
@@ -534,8 +557,10 @@ pub +branch+read+read-on-spec : {M : Type 1} → statement M
     (on-row-symbol-requires t)
     (on-wide-requires t)
     (on-returns t)
+    (on-row-from-requires t)
+    (on-returns-2 t)
     (on-branch-requires t)
     (on-add-r t)
     (on-loop-less t)
     (on-loop-again t)
-    (on-returns-2 t))
+    (on-returns-3 t))
