@@ -209,7 +209,8 @@ module _ {work order : List ℕ} {n : ℕ} (drafts : Drafts work order n) where
             same-order = refl;
           }
 
-      module _ {work′ order′ : List ℕ} (fill : Filled work n key piece work′) (into : Inserted order n at n order′) where
+      module _ {work′ order′ : List ℕ} (fill : Filled work n key piece work′)
+          (into : Inserted order n at n order′) where
         -- a draft that was there is in the same slot, which is not the new one
         old : (i : ℕ) → i < n → slotOf order i ≡ n → ⊥
         old i h e = omega (arith, drafts .within i h)
@@ -255,7 +256,8 @@ module _ {work order : List ℕ} {n : ℕ} (drafts : Drafts work order n) where
         once i j l (moved k d g m e) (moved t b h o f) z = drafts .once k t (omega arith) o (sym e ∙ z ∙ f)
 
         -- what holds of the slots that were in use, and of the new one
-        slots-all : (P : ℕ → Type 0) → ((i : ℕ) → i < n → P (slotOf order i)) → P n → (j : ℕ) → Came order n at n order′ j
+        slots-all : (P : ℕ → Type 0) → ((i : ℕ) → i < n → P (slotOf order i)) → P n → (j : ℕ)
+            → Came order n at n order′ j
             → P (slotOf order′ j)
         slots-all P h k j (stayed l e) = subst P (sym e) (h j (omega (arith, place .within)))
         slots-all P h k j (fresh l e) = subst P (sym e) k

@@ -33,7 +33,9 @@ loop-less : tie.Need-loop-less Inv-loop μ-loop
 loop-less c = search needs
 
 loop-again : tie.Need-loop-again Inv-loop μ-loop
-loop-again c = (omega arith, omega arith, shifted-more (c .before .before .loop .inv .2) (omega arith) (omega arith) (omega arith))
+loop-again c =
+    let shifted = c .before .before .loop .inv .2 in
+    (omega arith, omega arith, shifted-more shifted (omega arith) (omega arith) (omega arith))
 
 slice-write-to-2 : tie.Need-slice-write-to-2 Inv-loop μ-loop
 slice-write-to-2 c = omega (arith, c .before .loop .inv .2 .whole)
