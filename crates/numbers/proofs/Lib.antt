@@ -1,0 +1,2 @@
+-- What follows of the table of numbers.
+pub mod Told
