@@ -40,10 +40,7 @@ eight-from file rest k n e h =
 
 -- rows
 
-pub rows-length : (s : ℕ) (l : List Row) → length (rowsBytes s l) ≡ 8 * length l
-rows-length s [] = refl
-rows-length s (r ∷ l) = omega (arith, rows-length (s + length (r .word)) l)
-
+-- each word starts where the word of the row before ends
 pub rows-append : (s : ℕ) (l m : List Row) → rowsBytes s (l ++ m) ≡ rowsBytes s l ++ rowsBytes (s + length (said l)) m
 rows-append s [] m = ap (λ (s : ℕ). rowsBytes s m) (omega arith)
 rows-append s (r ∷ l) m =
@@ -51,6 +48,10 @@ rows-append s (r ∷ l) m =
     omega (arith, length-append (r .word) (said l)) in
     ap (λ (x : List ℕ). rowBytes s r ++ x)
     (rw e at (rows-append (s + length (r .word)) l m))
+
+pub rows-length : (s : ℕ) (l : List Row) → length (rowsBytes s l) ≡ 8 * length l
+rows-length s [] = refl
+rows-length s (r ∷ l) = omega (arith, rows-length (s + length (r .word)) l)
 
 -- what stands past the last row of a table
 abbrev pub noRow : Row

@@ -35,11 +35,12 @@ contentBytes T =
 unfoldable pub classBytes : Table → List ℕ
 classBytes T = map (λ a. code (T .class a)) (upTo 256)
 
--- "A set is one 64-bit number. Bit i of the number stands for state i"
+-- "Bit i of the number stands for state i": the number of a set
 abbrev pub setOf : List ℕ → ℕ
 setOf [] = 0
 setOf (q ∷ l) = 2 ^ q + setOf l
 
+-- "A set is one 64-bit number": its bytes
 abbrev pub setBytes : List ℕ → List ℕ
 setBytes l = littleEndian 8 (setOf l)
 

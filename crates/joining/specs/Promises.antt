@@ -12,11 +12,11 @@ use Rattle.table.specs.File.{tableOf}
 use Rattle.table.specs.Good.{Good, first as edition}
 use Rattle.joining.specs.Laid.{fileOf}
 
--- the answer that a table is bad, and which
+-- "1 (with 1 or 2 for the table …)": the answer that a table is bad, and which
 abbrev pub Blames : ℕ → ℕ → ℕ → Type 0
 Blames number which n = (number ≡ 1) × (which ≡ n)
 
--- the file of the joined table
+-- the file that join writes: that of the joined table
 abbrev pub joinedFile : List ℕ → List ℕ → List ℕ
 joinedFile one two = fileOf (joined (tableOf one) (tableOf two))
 
@@ -34,7 +34,7 @@ pub record Joins (one two out : List ℕ) (number which count : ℕ) (out′ : L
   pub counted : number ≡ 0 → count ≡ length (joinedFile one two)
   pub written : number ≡ 0 → out′ ≡ joinedFile one two ++ drop count out
 
--- demand 3: "exactly what the second allows on some output of the first", of the file that join wrote
+-- demand 3, of the file that join wrote: it allows what the second allows on some output of the first
 pub record Hopped (one two file : List ℕ) : Type 0 where
   pub good : Good edition file
   pub bytes : Bytes file

@@ -1,4 +1,4 @@
--- Depth is calls less returns: as high as the stack of every run, as deep as the session after a taken message.
+-- Depth is calls less returns: as high as the stack of every run, one more after a call, one less after a return.
 -- Assumes nothing.
 use mathlib.Core.Path.{_≡_, refl, ap}
 use mathlib.Core.Bool.{Bool, true, false, cond, _&&_}
@@ -11,8 +11,7 @@ use borrow.Author.Tests.{eqb-false}
 use Rattle.words.specs.Words.{Word}
 use Rattle.meaning.specs.Table.{Class, unused, call, return, internal, is, Row, Table}
 use Rattle.meaning.specs.Runs.{Config, Shifts, Steps, stop, next, Run, tally, depth}
-use Rattle.meaning.specs.Answers.{Moment, deeper, stepTests, Taken, none, more}
-use Rattle.meaning.proofs.Tests.{fails}
+use Rattle.meaning.specs.Answers.{deeper}
 
 -- one symbol more at the front, and at the end
 shifts-count : (k : Class) (m : ℕ) (s t : List ℕ) (c r n : ℕ) → Shifts k m s t → length t + c ≡ r + n
@@ -53,13 +52,10 @@ deeper-count call c r d h e = omega arith
 deeper-count return c r d h e = let n = eqb-false d 0 e in omega arith
 deeper-count internal c r d h e = h
 
--- after a taken message the session is as deep as the message
-taken-count : {T : Table} {u z : Word} {m : Moment} → Taken T u z m → tally call T u ≡ tally return T u + m .depth
-taken-count none = omega arith
-taken-count {T} (more {u} {z} {m} a room t e) =
-    let f = fails (stepTests T room m a) refl e in
-    let h = deeper-count (T .class a) (tally call T u) (tally return T u) (m .depth) (taken-count t) (f .1 .0) in
-    rw (count-snoc call T u a, count-snoc return T u a) h
-
-pub taken-depth : {T : Table} {u z : Word} {m : Moment} → Taken T u z m → m .depth ≡ depth T u
-taken-depth t = let h = taken-count t in omega arith
+-- one symbol more
+pub count-next : (T : Table) (u : Word) (a d : ℕ) → tally call T u ≡ tally return T u + d
+    → (is (T .class a) return && eqb d 0) ≡ false
+    → tally call T (u ++ a ∷ []) ≡ tally return T (u ++ a ∷ []) + deeper (T .class a) d
+count-next T u a d h e =
+    rw (count-snoc call T u a, count-snoc return T u a)
+    (deeper-count (T .class a) (tally call T u) (tally return T u) d h e)

@@ -15,19 +15,18 @@ use Rattle.words.specs.Order.{sameWord}
 use Rattle.words.proofs.Lists.{each-in, each-out, only-in, only-out, any-in, any-out, first-of}
 use Rattle.words.proofs.Common.{common-all}
 use Rattle.words.proofs.Order.{same-in, same-out}
-use Rattle.meaning.specs.Table.{Table, Limits, Good}
+use Rattle.meaning.specs.Table.{Table}
 use Rattle.meaning.specs.Runs.{Config, Run, Accepting, Allowed, depth}
 use Rattle.meaning.specs.Trails.{Trail, ground, over, trail}
 use Rattle.meaning.specs.Living.{Place}
-use Rattle.meaning.specs.Answers.{Moment, Taken, accepts, accepted, finishTests, finishNumber, finish}
+use Rattle.meaning.specs.Answers.{Moment, accepts, accepted, finishTests, finishNumber, finish}
 use Rattle.meaning.specs.Sentences.{First, Agreed, Ambiguous, finishSentences, Only}
 use Rattle.meaning.proofs.Trails.{At, run-at}
 use Rattle.words.proofs.Exact.{exact-as, eqb-exact, ltb-exact, same-exact, not-exact, any-exact, empty-exact}
 use Rattle.meaning.proofs.Tests.{Match, first-exact, fails}
-use Rattle.meaning.proofs.Depth.{run-depth, taken-depth}
-use Rattle.meaning.proofs.Moment.{holds}
+use Rattle.meaning.proofs.Depth.{run-depth}
 use Rattle.meaning.proofs.Stands.{stands, runs-of, agreed-one}
-use Rattle.meaning.proofs.Step.{sent-agreed}
+use Rattle.meaning.proofs.Holds.{Holds, holds-depth}
 
 -- a configuration at the top of a trail accepts exactly when the trail does
 accepts-exact : (T : Table) (c : Config) (t : Trail) → At c t → Exact (Accepting T c) (accepts T t)
@@ -56,7 +55,7 @@ module _ (A : List Word) where
       go v j false f =
           absurd (true≢false (sym (differ-exact .0 (v, j, (w, i, λ d. true≢false (sym (same-in d) ∙ f)))) ∙ e))
 
-module _ {L : Limits} {T : Table} (good : Good L T) {u z : Word} {m : Moment} (t : Taken T u z m) where
+module _ {T : Table} {u z : Word} {m : Moment} (h : Holds T u z m) where
   abbrev A : List Word
   A = accepted T (m .waiting)
 
@@ -66,7 +65,7 @@ module _ {L : Limits} {T : Table} (good : Good L T) {u z : Word} {m : Moment} (t
       let x = Memᴰ·of-map (λ p. p .output) (each (λ p. only (accepts T (p .trail)) p) (m .waiting)) i in
       let y = each-out (λ p. only (accepts T (p .trail)) p) (m .waiting) (x .1) in
       let o = only-out (accepts T (y .0 .trail)) (y .2) in
-      let r = runs-of T u z (m .waiting) (holds good t .runs) (y .0) (y .1) in
+      let r = runs-of T u z (m .waiting) (h .runs) (y .0) (y .1) in
       record {
         run = r .run;
         accepts =
@@ -77,7 +76,7 @@ module _ {L : Limits} {T : Table} (good : Good L T) {u z : Word} {m : Moment} (t
 
   run-accepted : (r : Run T u) → Accepting T (r .end) → (w : Word) × (w among A) × (r .end .output ≡ z ++ w)
   run-accepted r a =
-      let s = stands T u z (m .waiting) (holds good t .runs) r in
+      let s = stands T u z (m .waiting) (h .runs) r in
       let f = accepts-exact T (r .end) (trail r) (run-at r) .0 a in
       let e = subst (λ (s : Trail). accepts T s ≡ true) (s .trail) f in (
         s .place .output,
@@ -93,11 +92,11 @@ module _ {L : Limits} {T : Table} (good : Good L T) {u z : Word} {m : Moment} (t
   -- the sentences
   closed-exact : Exact (0 < depth T u) (not (eqb (m .depth) 0))
   closed-exact =
-      let d = taken-depth t in
+      let d = holds-depth h in
       exact-as (λ (f : m .depth ≡ 0 → ⊥). omega arith, λ l e. omega arith) (not-exact (eqb-exact (m .depth) 0))
 
   flat : not (eqb (m .depth) 0) ≡ false → depth T u ≡ 0
-  flat e = sym (taken-depth t) ∙ eqb-true (m .depth) 0 (not-false (eqb (m .depth) 0) e)
+  flat e = sym (holds-depth h) ∙ eqb-true (m .depth) 0 (not-false (eqb (m .depth) 0) e)
 
   final-exact : depth T u ≡ 0 → Exact ((r : Run T u) → r .end .state among T .final → ⊥) (isEmpty A)
   final-exact d = exact-as (to, λ f w i. let a = accepted-allowed w i in f (a .run) (a .accepts .final)) (empty-exact A)
@@ -138,16 +137,16 @@ module _ {L : Limits} {T : Table} (good : Good L T) {u z : Word} {m : Moment} (t
 
     room-exact : {v : Word} → v among A → ((w : Word) → w among A → common A ≡ w)
         → Exact NoRoom (ltb room (length (common A)))
-    room-exact {v} i h = exact-as (to, fro) (ltb-exact room (length (common A)))
+    room-exact {v} i one = exact-as (to, fro) (ltb-exact room (length (common A)))
       where
         to : room < length (common A) → NoRoom
-        to l = (z, v, sent-agreed good t, accepted-allowed v i, subst (λ (w : Word). room < length w) (h v i) l)
+        to l = (z, v, h .agreed, accepted-allowed v i, subst (λ (w : Word). room < length w) (one v i) l)
 
         fro : NoRoom → room < length (common A)
         fro n =
-            let d : n .0 ≡ z = agreed-one (n .2) (sent-agreed good t) in
+            let d : n .0 ≡ z = agreed-one (n .2) (h .agreed) in
             let w = allowed-accepted (n .1) (subst (λ (y : Word). Allowed T u (y ++ n .1)) d (n .3)) in
-            subst (λ (w : Word). room < length w) (sym (h (n .1) w)) (n .4)
+            subst (λ (w : Word). room < length w) (sym (one (n .1) w)) (n .4)
 
     finish-match : Match (finishTests T room m) (finishSentences T room u)
     finish-match = (
@@ -194,7 +193,7 @@ module _ {L : Limits} {T : Table} (good : Good L T) {u z : Word} {m : Moment} (t
 
         no-room : NoRoom → ⊥
         no-room n =
-            let d : n .0 ≡ z = agreed-one (n .2) (sent-agreed good t) in
+            let d : n .0 ≡ z = agreed-one (n .2) (h .agreed) in
             let e : z ++ n .1 ≡ z ++ w = ap (λ (y : Word). y ++ n .1) (sym d) ∙ o .alone (n .0 ++ n .1) (n .3) in
             let f : length (n .1) ≡ length w = ap length (append-cancel-left z (n .1) w e) in
             let g = n .4 in

@@ -104,8 +104,8 @@ module _ {L : Limits} (A B : Table) (goodA : Good L A) (goodB : Good L B) where
       record {
         states = (mul-pos (goodA .states .0) (goodB .states .0), not-less (λ h. fits (inr (inl h))));
         markers = not-less (λ h. fits (inr (inr (inl h))));
-        depthCap = goodA .depthCap;
-        waitingCap = goodB .waitingCap;
+        depthCap = let a = goodA .depthCap in let b = goodB .depthCap in omega arith;
+        waitingCap = let a = goodA .waitingCap in let b = goodB .waitingCap in omega arith;
         symbols = goodA .symbols;
         starting = good-pairs (A .states) (B .states) (A .starting) (B .starting) (goodA .starting) (goodB .starting);
         some = (

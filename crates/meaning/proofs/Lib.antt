@@ -8,7 +8,7 @@ pub mod Living
 pub mod Depth
 pub mod Moment
 pub mod Stands
-pub mod Alike
+pub mod Holds
 pub mod Step
 pub mod Finish
 pub mod Frames

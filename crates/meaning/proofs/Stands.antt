@@ -11,18 +11,19 @@ use lib.ListN.{length}
 use Rattle.words.specs.Lists.{_among_, each, anyOf, isEmpty, Exact}
 use Rattle.words.specs.Words.{Word, Begins}
 use Rattle.words.proofs.Lists.{each-in, each-out}
-use Rattle.words.proofs.Common.{begins-same, begins-ahead, common-begins, common-longest}
+use Rattle.words.proofs.Common.{begins-same, begins-ahead}
 use Rattle.words.proofs.Arranged.{arranged-in, arranged-out, arranged-rises, arranged-is}
 use Rattle.meaning.specs.Table.{Table}
 use Rattle.meaning.specs.Runs.{Run}
 use Rattle.meaning.specs.Trails.{Trail, Pair, trail, trailKey, Link, links, linkKey, pairKey}
 use Rattle.meaning.specs.Living.{Place, place, living}
-use Rattle.meaning.specs.Answers.{linksCap, outputs, linksOf, clash, sending, held}
+use Rattle.meaning.specs.Answers.{linksCap, linksOf, clash, sending, held}
 use Rattle.meaning.specs.Sentences.{Agreed, Linked, Crowded, Conflict, Backlog}
 use Rattle.words.proofs.Exact.{exact-as, empty-exact, any-exact, and-exact, not-exact, ltb-exact, same-exact}
 use Rattle.meaning.proofs.Trails.{trailKey-one}
 use Rattle.meaning.proofs.Living.{Reaches, living-run, run-living}
-use Rattle.meaning.proofs.Moment.{front, ahead, common-front, cut, held-in, held-front}
+use Rattle.meaning.proofs.Moment.{Alike, front, ahead, sending-longest, sending-begins, sending-front}
+use Rattle.meaning.proofs.Moment.{cut, held-in, held-front}
 
 -- links with one key are the same
 pairKey-one : (p q : Option Pair) → pairKey p ≡ pairKey q → p ≡ q
@@ -48,7 +49,7 @@ linkKey-one k l e =
 pub agreed-one : {T : Table} {u y z : Word} → Agreed T u y → Agreed T u z → y ≡ z
 agreed-one {y = y} {z = z} f g = begins-same y z (g .longest y (f .begins)) (f .longest z (g .begins))
 
-module _ (T : Table) (u z : Word) (X : List Place) (runs : living T u ≡ ahead z X) where
+module _ (T : Table) (u z : Word) (X : List Place) (runs : Alike (living T u) (ahead z X)) where
   -- the place of a run
   pub record Stands (r : Run T u) : Type 0 where
     pub place : Place
@@ -58,8 +59,7 @@ module _ (T : Table) (u z : Word) (X : List Place) (runs : living T u ≡ ahead 
 
   pub stands : (r : Run T u) → Stands r
   stands r =
-      let l = subst (λ (Y : List Place). place (trail r) (r .end .output) among Y) runs (run-living r) in
-      let m = Memᴰ·of-map (front z) X l in
+      let m = Memᴰ·of-map (front z) X (runs (place (trail r) (r .end .output)) .0 (run-living r)) in
       record {
         place = m .0;
         listed = m .1;
@@ -70,8 +70,7 @@ module _ (T : Table) (u z : Word) (X : List Place) (runs : living T u ≡ ahead 
   -- the run of a place
   pub runs-of : (p : Place) → p among X → Reaches T u (p .trail) (z ++ p .output)
   runs-of p m =
-      living-run T u (p .trail) (z ++ p .output)
-      (subst (λ (Y : List Place). front z p among Y) (sym runs) (Memᴰ·map (front z) m))
+      living-run T u (p .trail) (z ++ p .output) (runs (front z p) .1 (Memᴰ·map (front z) m))
 
   -- no place, no run
   pub none-exact : Exact (Run T u → ⊥) (isEmpty X)
@@ -85,19 +84,18 @@ module _ (T : Table) (u z : Word) (X : List Place) (runs : living T u ≡ ahead 
         begins = λ r.
             let s = stands r in
             subst (Begins (z ++ sending X)) (sym (s .output))
-            (begins-ahead z (common-begins (outputs X) (Memᴰ·map (λ p. p .output) (s .listed))));
+            (begins-ahead z (sending-begins X (s .listed)));
         longest = λ x all.
-            let n = Memᴰ·map (λ p. p .output) (Memᴰ·map (front z) i) in
-            subst (Begins x) (common-front z X i) (common-longest (outputs (ahead z X)) n (each-begins x all));
+            subst (Begins x) (sending-front z X i)
+            (sending-longest (ahead z X) (Memᴰ·map (front z) i) x (each-begins x all));
       }
     where
-      each-begins : (x : Word) → ((r : Run T u) → Begins x (r .end .output)) → (w : Word) → w among outputs (ahead z X)
-          → Begins x w
-      each-begins x all w m =
-          let n = Memᴰ·of-map (λ p. p .output) (ahead z X) m in
-          let o = Memᴰ·of-map (front z) X (n .1) in
+      each-begins : (x : Word) → ((r : Run T u) → Begins x (r .end .output)) → (q : Place) → q among ahead z X
+          → Begins x (q .output)
+      each-begins x all q m =
+          let o = Memᴰ·of-map (front z) X m in
           let r = runs-of (o .0) (o .1) in
-          subst (Begins x) (r .output ∙ ap (λ (p : Place). p .output) (o .2) ∙ n .2) (all (r .run))
+          subst (Begins x) (r .output ∙ ap (λ (p : Place). p .output) (o .2)) (all (r .run))
 
   -- the links
   links-exact : (l : Link) → (l among each (λ p. links (p .trail)) X) ↔ ((r : Run T u) × (l among links (trail r)))

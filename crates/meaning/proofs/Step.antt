@@ -3,7 +3,7 @@
 use mathlib.Core.Path.{_≡_, refl, sym, _∙_, ap, subst}
 use mathlib.Core.Bool.{_&&_}
 use mathlib.Core.Logic.{_↔_}
-use mathlib.Core.List.{List, [], _∷_, _++_, append-cancel-left, append-nil}
+use mathlib.Core.List.{List, [], _∷_, _++_, append-cancel-left}
 use Prim.Native.Nat.{ℕ, _<_}
 use lib.Dec.{eqb, ltb}
 use lib.ListN.{length}
@@ -18,16 +18,13 @@ use Rattle.meaning.specs.Answers.{Moment, sending, sends, follows, step,
 use Rattle.meaning.specs.Sentences.{First, Agreed, NoRoom, stepSentences}
 use Rattle.words.proofs.Exact.{exact-as, eqb-exact, ltb-exact, and-exact}
 use Rattle.meaning.proofs.Tests.{is-exact, Match, first-exact}
-use Rattle.meaning.proofs.Depth.{taken-depth}
-use Rattle.meaning.proofs.Moment.{ahead, holds, moved-runs}
+use Rattle.meaning.proofs.Moment.{Alike, ahead}
 use Rattle.meaning.proofs.Stands.{agreed, agreed-one, none-exact, crowded-exact, conflict-exact, backlog-exact}
+use Rattle.meaning.proofs.Holds.{Holds, holds-depth, moved-runs, holds}
 
 -- demand 2: what was sent is the longest common beginning of the outputs of all runs
 pub sent-agreed : {L : Limits} {T : Table} → Good L T → {u z : Word} {m : Moment} → Taken T u z m → Agreed T u z
-sent-agreed {T = T} g {u} {z} {m} t =
-    let h = holds g t in
-    subst (Agreed T u) (ap (λ (y : Word). z ++ y) (h .free) ∙ append-nil z)
-    (agreed T u z (m .waiting) (h .runs) (h .some .1))
+sent-agreed g t = holds g t .agreed
 
 -- a class at a depth
 class-exact : (j k : Class) (m n d : ℕ) → m ≡ n → Exact ((j ≡ k) × (n ≡ d)) (is j k && eqb m d)
@@ -46,26 +43,26 @@ pub step-refused : (T : Table) (room : ℕ) (m : Moment) (a : ℕ) → (stepNumb
     → _≡_ {A = Reply} (step T room m a) (stepNumber T room m a, [], m)
 step-refused T room m a f = rw (ne-eqb (stepNumber T room m a) 0 f)
 
-module _ {L : Limits} {T : Table} (good : Good L T) {u z : Word} {m : Moment} (t : Taken T u z m) (room a : ℕ) where
+module _ {T : Table} {u z : Word} {m : Moment} (h : Holds T u z m) (room a : ℕ) where
   abbrev X : List Place
   X = moved T (m .waiting) a
 
   abbrev v : Word
   v = u ++ a ∷ []
 
-  runs : living T v ≡ ahead z X
-  runs = moved-runs a (holds good t)
+  runs : Alike (living T v) (ahead z X)
+  runs = moved-runs h a
 
   -- what must be written does not fit
   room-exact : {p : Place} → p among X → Exact (NoRoom T u v room) (ltb room (length (sending X)))
   room-exact i = exact-as (to, fro) (ltb-exact room (length (sending X)))
     where
       to : room < length (sending X) → NoRoom T u v room
-      to l = (z, sending X, sent-agreed good t, agreed T v z X runs i, l)
+      to l = (z, sending X, h .agreed, agreed T v z X runs i, l)
 
       fro : NoRoom T u v room → room < length (sending X)
       fro n =
-          let d : n .0 ≡ z = agreed-one (n .2) (sent-agreed good t) in
+          let d : n .0 ≡ z = agreed-one (n .2) (h .agreed) in
           let e : n .0 ++ n .1 ≡ z ++ sending X = agreed-one (n .3) (agreed T v z X runs i) in
           let f = append-cancel-left z (n .1) (sending X) (ap (λ (y : Word). y ++ n .1) (sym d) ∙ e) in
           subst (λ (y : Word). room < length y) f (n .4)
@@ -77,10 +74,10 @@ module _ {L : Limits} {T : Table} (good : Good L T) {u z : Word} {m : Moment} (t
     is-exact (T .class a) unused,
     λ known. (
       refl,
-      class-exact (T .class a) return (m .depth) (depth T u) 0 (taken-depth t),
+      class-exact (T .class a) return (m .depth) (depth T u) 0 (holds-depth h),
       λ opened. (
         refl,
-        class-exact (T .class a) call (m .depth) (depth T u) (T .depthCap) (taken-depth t),
+        class-exact (T .class a) call (m .depth) (depth T u) (T .depthCap) (holds-depth h),
         λ shallow. (
           refl,
           none-exact T v z X runs,

@@ -5,7 +5,7 @@ use mathlib.Core.List.{List, [], _∷_, _++_, map}
 use Prim.Native.Nat.{ℕ}
 use lib.Dec.{eqb}
 use lib.ListN.{length}
-use Rattle.words.specs.Lists.{each, every}
+use Rattle.words.specs.Lists.{each, every, anyOf}
 use Rattle.words.specs.Words.{Word}
 use Rattle.words.specs.Order.{sameWord}
 use Rattle.meaning.specs.Table.{Class, unused, call, return, internal, Row, Table, rowKey, edition1}
@@ -134,35 +134,39 @@ crowd start more =
 abbrev twoTrails : Table
 twoTrails = table 3 1 4 (0 ∷ 1 ∷ []) (2 ∷ []) (row 10 0 2 1 (97 ∷ []) ∷ row 10 1 2 1 (98 ∷ []) ∷ [])
 
--- one state, which starts and is final; `(` 40, `)` 41, `<` 60, `>` 62 and `[` 91, `]` 93, `{` 123, `}` 125
-abbrev one : ℕ → ℕ → (ℕ → Class) → ℕ → List Row → Table
-one depth waiting k m rs =
+-- one state, which starts and is final; `(` 40, `)` 41, `<` 60, `>` 62 and `[` 91, `]` 93, `{` 123, `}` 125; calls in
+-- `opens`, returns in `closes`, and nothing else has a class
+abbrev one : ℕ → ℕ → Word → Word → ℕ → List Row → Table
+one depth waiting opens closes m rs =
     record {
       states = 1;
       markers = m;
       depthCap = depth;
       waitingCap = waiting;
-      class = k;
+      class = λ a. cond (anyOf (eqb a) opens) call (cond (anyOf (eqb a) closes) return unused);
       starting = 0 ∷ [];
       final = 0 ∷ [];
       rows = rs;
     }
 
-abbrev pub firstHop : List Row → Table
-firstHop rs = one 4 4 (λ a. cond (eqb a 40 || eqb a 60) call (cond (eqb a 41 || eqb a 62) return unused)) 1 rs
-
-abbrev pub secondHop : Table
-secondHop =
-    one 5 3 (λ a. cond (eqb a 91 || eqb a 123) call (cond (eqb a 93 || eqb a 125) return unused)) 2
-    (row 91 0 0 1 (97 ∷ []) ∷ row 93 0 0 1 (100 ∷ []) ∷ row 123 0 0 2 (98 ∷ []) ∷ row 125 0 0 2 (99 ∷ []) ∷ [])
-
--- `(` writes `[{`, `)` writes the given word
-abbrev pub round : Word → List Row
+-- "first, one state, `(` writes `[{`", and `)` writes the given word
+abbrev round : Word → List Row
 round w = row 40 0 0 1 (91 ∷ 123 ∷ []) ∷ row 41 0 0 1 w ∷ []
 
+abbrev pub firstHop : Word → Table
+firstHop w = one 4 4 (40 ∷ []) (41 ∷ []) 1 (round w)
+
+-- "second, `[` marker 1 `a`, `{` marker 2 `b`, `}` marker 2 `c`, `]` marker 1 `d`"
+abbrev pub secondHop : Table
+secondHop =
+    one 5 3 (91 ∷ 123 ∷ []) (93 ∷ 125 ∷ []) 2
+    (row 91 0 0 1 (97 ∷ []) ∷ row 93 0 0 1 (100 ∷ []) ∷ row 123 0 0 2 (98 ∷ []) ∷ row 125 0 0 2 (99 ∷ []) ∷ [])
+
 -- and `<` writes `{[`, `>` writes `]}`
-abbrev pointed : List Row
-pointed = row 60 0 0 1 (123 ∷ 91 ∷ []) ∷ row 62 0 0 1 (93 ∷ 125 ∷ []) ∷ []
+abbrev pointed : Table
+pointed =
+    one 4 4 (40 ∷ 60 ∷ []) (41 ∷ 62 ∷ []) 1
+    (round (125 ∷ 93 ∷ []) ++ row 60 0 0 1 (123 ∷ 91 ∷ []) ∷ row 62 0 0 1 (93 ∷ 125 ∷ []) ∷ [])
 
 -- the cases
 
@@ -170,11 +174,11 @@ abbrev case : Table → Word → ℕ → List Told → ℕ → Told → Case
 case T u room told links ending =
     message (record { table = T; symbols = u; room = room; told = told; links = links; ending = ending })
 
-abbrev join : List Row → ℕ → ℕ → ℕ → List Row → ℕ → Case
-join rs room number markers rows size =
+abbrev join : Table → ℕ → ℕ → ℕ → List Row → ℕ → Case
+join first room number markers rows size =
     joining
     (record {
-      first = firstHop rs;
+      first = first;
       second = secondHop;
       room = room;
       number = number;
@@ -210,11 +214,11 @@ cases =
     ∷ case (crowd (eight ++ 8 ∷ []) []) (10 ∷ []) 9 ((0, []) ∷ []) 64 (11, [])
     ∷ case (crowd eight (row 10 0 7 1 [] ∷ [])) (10 ∷ []) 9 ((7, []) ∷ []) 8 (12, [])
     ∷ case twoTrails (10 ∷ []) 9 ((0, []) ∷ []) 4 (11, [])
-    ∷ join (round (125 ∷ 93 ∷ [])) 320 0 1 roundJoined 320
-    ∷ join (round (125 ∷ 93 ∷ [])) 319 10 1 [] 0
-    ∷ join (round (125 ∷ [])) 320 14 1 [] 0
-    ∷ join (round (125 ∷ 93 ∷ []) ++ pointed) 340 0 2 (roundJoined ++ pointedJoined) 340
-    ∷ case (joined (firstHop (round (125 ∷ 93 ∷ []))) secondHop) (40 ∷ 40 ∷ 41 ∷ 41 ∷ []) 9
+    ∷ join (firstHop (125 ∷ 93 ∷ [])) 320 0 1 roundJoined 320
+    ∷ join (firstHop (125 ∷ 93 ∷ [])) 319 10 1 [] 0
+    ∷ join (firstHop (125 ∷ [])) 320 14 1 [] 0
+    ∷ join pointed 340 0 2 (roundJoined ++ pointedJoined) 340
+    ∷ case (joined (firstHop (125 ∷ 93 ∷ [])) secondHop) (40 ∷ 40 ∷ 41 ∷ 41 ∷ []) 9
     ((0, 97 ∷ 98 ∷ []) ∷ (0, 97 ∷ 98 ∷ []) ∷ (0, 99 ∷ 100 ∷ []) ∷ (0, 99 ∷ 100 ∷ []) ∷ [])
     1
     (0, [])

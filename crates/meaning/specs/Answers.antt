@@ -26,13 +26,15 @@ pub record Moment : Type 0 where
   pub depth : ℕ
   pub waiting : List Place
 
--- "Beginning gives empty pieces, and the opening call reports how many starting states there are"
+-- "Beginning gives empty pieces"
 abbrev pub opened : Table → Moment
 opened T = record { depth = 0; waiting = begun T }
 
+-- "the opening call reports how many starting states there are"
 abbrev pub startingStates : Table → ℕ
 startingStates T = length (T .starting)
 
+-- the outputs of places, or what waits of them
 abbrev pub outputs : List Place → List Word
 outputs X = map (λ p. p .output) X
 
@@ -44,21 +46,23 @@ linksOf X = arranged linkKey (each (λ p. links (p .trail)) X)
 abbrev pub clash : Place → Place → Bool
 clash p q = sameWord (trailKey (p .trail)) (trailKey (q .trail)) && not (sameWord (p .output) (q .output))
 
--- what is sent, the longest common beginning; and what waits when it is sent
+-- demand 2: what is sent is the longest common beginning
 abbrev pub sending : List Place → Word
 sending X = common (outputs X)
 
+-- "after sending": what waits when that is sent
 abbrev pub held : List Place → List Place
 held X = let n = length (sending X) in map (λ p. place (p .trail) (drop n (p .output))) X
 
+-- "Depth is calls less returns taken": the depth after a symbol of each class
 abbrev pub deeper : Class → ℕ → ℕ
 deeper unused d = d
 deeper call d = suc d
 deeper return d = d - 1
 deeper internal d = d
 
--- "Step: 1 to 10", with the room lent for output:
--- 3 UnknownSymbol, 4 Unopened, 5 TooDeep, 6 NoRun, 7 Crowded, 8 Conflict, 9 Backlog, 10 NoRoom
+-- "Step: 1 to 10", with the room lent for output: 3 UnknownSymbol, 4 Unopened, 5 TooDeep, 6 NoRun, 7 Crowded, 8
+-- Conflict, 9 Backlog, 10 NoRoom
 abbrev pub stepTests : Table → ℕ → Moment → ℕ → List (Bool × ℕ)
 stepTests T room m a =
     let k = T .class a in
@@ -73,13 +77,15 @@ stepTests T room m a =
     ∷ (ltb room (length (sending X)), 10)
     ∷ []
 
+-- the number that step gives, of a good table and a sound session
 abbrev pub stepNumber : Table → ℕ → Moment → ℕ → ℕ
 stepNumber T room m a = first (stepTests T room m a)
 
--- what a taken symbol sends, and what the session then stands for
+-- what a taken symbol sends
 abbrev pub sends : Table → Moment → ℕ → Word
 sends T m a = sending (moved T (m .waiting) a)
 
+-- what the session stands for after a taken symbol
 abbrev pub follows : Table → Moment → ℕ → Moment
 follows T m a = record { depth = deeper (T .class a) (m .depth); waiting = held (moved T (m .waiting) a) }
 
@@ -98,6 +104,7 @@ abbrev pub accepts : Table → Trail → Bool
 accepts T (ground q) = anyOf (eqb q) (T .final)
 accepts T (over q m t) = false
 
+-- what waits of the runs that accept
 abbrev pub accepted : Table → List Place → List Word
 accepted T X = outputs (each (λ p. only (accepts T (p .trail)) p) X)
 
@@ -111,6 +118,7 @@ finishTests T room m =
     ∷ (ltb room (length (common X)), 10)
     ∷ []
 
+-- the number that finish gives, of a good table and a sound session
 abbrev pub finishNumber : Table → ℕ → Moment → ℕ
 finishNumber T room m = first (finishTests T room m)
 

@@ -12,24 +12,27 @@ use Rattle.meaning.specs.Runs.{Config, config, shifted, said, Allowed}
 use Rattle.meaning.specs.Answers.{first}
 use Rattle.meaning.specs.Nesting.{nests}
 
--- "the second table reads the word …, branching": the endings of all readings of a word from a configuration
+-- what one row makes of a configuration, one ending or none
 abbrev pub taken : Class → Row → Config → List Config
 taken k r c =
     cond (eqb (c .state) (r .from))
     (map (λ s. config (r .to) s (c .output ++ r .word)) (shifted k (r .marker) (c .stack)))
     []
 
+-- "the second table reads the word …, branching": the endings of all readings of a word from a configuration
 abbrev pub endings : Table → Word → Config → List Config
 endings T [] c = c ∷ []
 endings T (a ∷ v) c = each (λ r. each (endings T v) (cond (eqb (r .symbol) a) (taken (T .class a) r c) [])) (T .rows)
 
+-- the endings of the second's readings of a row's word, from a state and a stack
 abbrev pub readings : Table → Row → ℕ → List ℕ → List Config
 readings B x q s = endings B (x .word) (config q s [])
 
--- "State (p, q) has number p times the second's state count plus q; it starts or is final when both are"
+-- "State (p, q) has number p times the second's state count plus q"
 abbrev pub pair : ℕ → ℕ → ℕ → ℕ
 pair n p q = p * n + q
 
+-- "it starts or is final when both are"
 abbrev pub pairsOf : ℕ → List ℕ → List ℕ → List ℕ
 pairsOf n ps qs = each (λ p. map (pair n p) qs) ps
 
@@ -38,6 +41,7 @@ pub record Mark : Type 0 where
   pub marker : ℕ
   pub left : List ℕ
 
+-- a joined marker, by its parts
 abbrev pub mark : ℕ → List ℕ → Mark
 mark m s = record { marker = m; left = s }
 
@@ -45,18 +49,20 @@ mark m s = record { marker = m; left = s }
 abbrev pub markKey : Mark → Word
 markKey x = x .marker ∷ reverse (x .left)
 
--- "Joined markers are those that a joined call row pushes"
+-- "Joined markers are those that a joined call row pushes": those of one row of the first and one state of the second
 abbrev pub pushed : Table → Table → Row → ℕ → List Mark
 pushed A B x q =
     each (λ e. only (is (A .class (x .symbol)) call) (mark (x .marker) (e .stack))) (readings B x q [])
 
+-- all joined markers, "by the first's marker, then the list from its bottom, a beginning first"
 abbrev pub marks : Table → Table → List Mark
 marks A B = arranged markKey (each (λ x. each (pushed A B x) (upTo (B .states))) (A .rows))
 
+-- "numbered from 1"
 abbrev pub number : List Mark → Mark → ℕ
 number L y = suc (rank markKey L y)
 
--- from which stacks a row's word is read: "from an empty stack of its own"; "a return row's reading starts from the
+-- from which stacks a row's word is read: "from an empty stack of its own"; "A return row's reading starts from the
 -- list in the popped marker"
 abbrev pub startsOf : List Mark → Class → ℕ → List (List ℕ)
 startsOf L unused m = []
@@ -64,14 +70,15 @@ startsOf L call m = [] ∷ []
 startsOf L return m = each (λ y. only (eqb (y .marker) m) (y .left)) L
 startsOf L internal m = [] ∷ []
 
--- "An internal row's ending must have that stack empty", and a return row's "must end empty"
+-- "An internal row's ending must have that stack empty"; a return row's reading "must end empty"
 abbrev pub leaves : Class → List ℕ → Bool
 leaves unused s = false
 leaves call s = true
 leaves return s = isEmpty s
 leaves internal s = isEmpty s
 
--- the joined row's marker, if the reading started from `s` and left `t`
+-- "a row whose marker is the first's marker with the markers left on that stack", of a reading that started from `s`
+-- and left `t`; a return row pops the marker it started from
 abbrev pub markerOf : List Mark → Class → ℕ → List ℕ → List ℕ → ℕ
 markerOf L unused m s t = 0
 markerOf L call m s t = number L (mark m t)
@@ -89,9 +96,11 @@ joinedRow B L k x q s e =
       word = e .output;
     }
 
+-- the rows that the readings from one state and stack give
 abbrev pub rowsFrom : Table → List Mark → Class → Row → ℕ → List ℕ → List Row
 rowsFrom B L k x q s = each (λ e. only (leaves k (e .stack)) (joinedRow B L k x q s e)) (readings B x q s)
 
+-- the rows that a row of the first gives with a state of the second
 abbrev pub rowsOf : Table → Table → List Mark → Row → ℕ → List Row
 rowsOf A B L x q = let k = A .class (x .symbol) in each (rowsFrom B L k x q) (startsOf L k (x .marker))
 
@@ -110,14 +119,16 @@ joined A B =
       rows = arranged rowKey (each (λ x. each (rowsOf A B L x) (upTo (B .states))) (A .rows));
     }
 
--- "Words are laid in row order, none shared"
+-- the length of a table's file: 300 bytes, 8 for each row, and the words: "laid in row order, none shared"
 abbrev pub fileSize : Table → ℕ
 fileSize T = 300 + 8 * length (T .rows) + length (said (T .rows))
 
--- "TooLarge exactly when: a word of the first is over 16 bytes; …"
+-- "a word of the first is over 16 bytes"; "a joined word over 255 bytes"
 abbrev pub longWord : ℕ → Table → Bool
 longWord n T = anyOf (λ r. ltb n (length (r .word))) (T .rows)
 
+-- "TooLarge exactly when: a word of the first is over 16 bytes; states over 64; markers over 64; rows over 256; a
+-- joined word over 255 bytes; or the words together over 4,096"
 abbrev pub large : Limits → Table → Table → Bool
 large L A J =
     longWord 16 A
@@ -127,16 +138,17 @@ large L A J =
     || longWord (L .word) J
     || ltb (L .words) (length (said (J .rows)))
 
--- "Join: 1, 14, 15, 10": 14 NotNested, 15 TooLarge, 10 NoRoom, of two good tables, with the room lent for the file
+-- "Join: 1 …, 14, 15, 10": 14 NotNested, 15 TooLarge, 10 NoRoom, of two good tables, with the room lent for the file
 abbrev pub joinTests : Limits → ℕ → Table → Table → List (Bool × ℕ)
 joinTests L room A B =
     let J = joined A B in
     (not (nests (B .class) A), 14) ∷ (large L A J, 15) ∷ (ltb room (fileSize J), 10) ∷ []
 
+-- the number that join gives, of two good tables
 abbrev pub joinNumber : Limits → ℕ → Table → Table → ℕ
 joinNumber L room A B = first (joinTests L room A B)
 
--- demand 3: "exactly what the second allows on some output of the first"
+-- demand 3: what the second allows on some output of the first
 pub record After (A B : Table) (u w : Word) : Type 0 where
   pub between : Word
   pub first : Allowed A u between

@@ -13,12 +13,14 @@ use Rattle.words.specs.Order.{Rises}
 pub data Class : Type 0 where
   unused call return internal : Class
 
+-- "0 unused, 1 call, 2 return, 3 internal": the number of a class
 abbrev pub code : Class → ℕ
 code unused = 0
 code call = 1
 code return = 2
 code internal = 3
 
+-- whether two classes are the same
 abbrev pub is : Class → Class → Bool
 is j k = eqb (code j) (code k)
 
@@ -30,7 +32,7 @@ pub record Row : Type 0 where
   pub marker : ℕ
   pub word : Word
 
--- the sets of states are listed, in rising order
+-- a table as "The meaning of a table" has it: counts, caps, classes, the two sets listed in rising order, and rows
 pub record Table : Type 0 where
   pub states : ℕ
   pub markers : ℕ
@@ -51,6 +53,8 @@ pub record Limits : Type 0 where
   pub words : ℕ
   pub word : ℕ
 
+-- "states, 1 to 64 … markers, 0 to 64 … depth cap, 1 to 32 … waiting cap, 0 to 512", "0 to 256 rows", "words (0 to
+-- 4,096 bytes)"; a word's length is one byte
 abbrev pub edition1 : Limits
 edition1 = record { states = 64; markers = 64; depth = 32; waiting = 512; rows = 256; words = 4096; word = 255 }
 
@@ -65,11 +69,12 @@ MarkFits call n m = (1 ≤ m) × (m ≤ n)
 MarkFits return n m = (1 ≤ m) × (m ≤ n)
 MarkFits internal n m = m ≡ 0
 
--- a set of states below `n`
+-- "bits from the state count upward are 0": a set of states below `n`, listed
 pub record GoodSet (n : ℕ) (l : List ℕ) : Type 0 where
   pub rise : Rises (λ q. q ∷ []) l
   pub below : (q : ℕ) → q among l → q < n
 
+-- "States are below the state count", its marker fits, and its word has room in a file
 pub record GoodRow (L : Limits) (T : Table) (r : Row) : Type 0 where
   pub from : r .from < T .states
   pub to : r .to < T .states

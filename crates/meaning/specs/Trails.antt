@@ -8,7 +8,8 @@ use Rattle.words.specs.Words.{Word}
 use Rattle.meaning.specs.Table.{Class, unused, call, return, internal, Row, Table}
 use Rattle.meaning.specs.Runs.{Run}
 
--- a trail: at level 0 a state alone, else the present state and marker over the trail that the still open call left
+-- "The trail of a run at depth d": at level 0 a state alone, else the present state and marker over the trail that the
+-- still open call left
 pub data Trail : Type 0 where
   ground : ℕ → Trail
   over : ℕ → ℕ → Trail → Trail
@@ -18,6 +19,7 @@ pub record Pair : Type 0 where
   pub state : ℕ
   pub marker : ℕ
 
+-- "The pair at level d is the present one"
 abbrev pub top : Trail → Pair
 top (ground q) = record { state = q; marker = 0 }
 top (over q m t) = record { state = q; marker = m }
@@ -27,10 +29,12 @@ abbrev pub pairs : Trail → List Pair
 pairs (ground q) = top (ground q) ∷ []
 pairs (over q m t) = top (over q m t) ∷ pairs t
 
+-- the stack of a run with this trail: the top markers of its pairs above level 0
 abbrev pub stackOf : Trail → List ℕ
 stackOf (ground q) = []
 stackOf (over q m t) = m ∷ stackOf t
 
+-- "at depth d": how many markers are on that stack
 abbrev pub height : Trail → ℕ
 height t = length (stackOf t)
 
@@ -38,26 +42,29 @@ height t = length (stackOf t)
 abbrev pub trailKey : Trail → Word
 trailKey t = each (λ p. p .state ∷ p .marker ∷ []) (pairs t)
 
--- the trail with another present state; and the trail under it with another present state
+-- an internal row: the trail with another present state
 abbrev pub seat : ℕ → Trail → Trail
 seat q (ground p) = ground q
 seat q (over p m t) = over q m t
 
+-- a return row: the trail under it, with another present state
 abbrev pub fall : ℕ → Trail → Trail
 fall q (ground p) = ground q
 fall q (over p m t) = seat q t
 
--- what a row of each class makes of a trail
+-- what a row of each class makes of a trail; `trail-right` says that this gives the pairs that document 01 words
 abbrev pub carry : Class → Row → Trail → Trail
 carry unused r t = t
 carry call r t = over (r .to) (r .marker) t
 carry return r t = fall (r .to) t
 carry internal r t = seat (r .to) t
 
+-- what rows one after the other make of a trail
 abbrev pub trailFrom : Table → Trail → List Row → Trail
 trailFrom T t [] = t
 trailFrom T t (r ∷ ρ) = trailFrom T (carry (T .class (r .symbol)) r t) ρ
 
+-- the trail of a run, from its starting state by its rows
 abbrev pub trail : {T : Table} {u : Word} → Run T u → Trail
 trail {T} r = trailFrom T (ground (r .start)) (r .rows)
 
@@ -76,14 +83,16 @@ abbrev pub linkOf : Trail → Link
 linkOf (ground q) = record { level = 0; here = record { state = q; marker = 0 }; below = none }
 linkOf (over q m t) = on q m (linkOf t)
 
+-- the links of a trail, that of the present pair first
 abbrev pub links : Trail → List Link
 links (ground q) = linkOf (ground q) ∷ []
 links (over q m t) = linkOf (over q m t) ∷ links t
 
--- "links rise strictly by level, then state and marker, then state and marker below"
+-- "state and marker below", none at level 0
 abbrev pub pairKey : Option Pair → Word
 pairKey none = []
 pairKey (some p) = p .state ∷ p .marker ∷ []
 
+-- "links rise strictly by level, then state and marker, then state and marker below"
 abbrev pub linkKey : Link → Word
 linkKey l = l .level ∷ l .here .state ∷ l .here .marker ∷ pairKey (l .below)

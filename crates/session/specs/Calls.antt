@@ -10,11 +10,12 @@ use Rattle.standing.specs.Bytes.{sessionOf, SoundBytes}
 use Rattle.session.specs.declared.fresh.Opening.{Opening}
 use Rattle.session.specs.declared.fresh.Opening.the-variants.{Taken, BadTable}
 
--- "Numbers given back": 0 Taken, 1 BadTable; and "how many starting states there are", 0 where begin refuses
+-- "Numbers given back": 0 Taken, 1 BadTable
 abbrev pub numberOf : Opening → ℕ
 numberOf (Taken n) = 0
 numberOf BadTable = 1
 
+-- "how many starting states there are", 0 where begin refuses
 abbrev pub statesOf : Opening → ℕ
 statesOf (Taken n) = n
 statesOf BadTable = 0

@@ -4,6 +4,7 @@ use mathlib.Core.List.{List, [], _∷_}
 use Prim.Native.Nat.{ℕ, zero, suc, _/_, _%_, _^_}
 use lib.Dec.{eqb}
 
+-- "Bit i of the number stands for state i"
 abbrev pub isIn : ℕ → ℕ → Bool
 isIn set i = eqb (set / 2 ^ i % 2) 1
 
@@ -17,7 +18,7 @@ unfoldable pub membersFrom : ℕ → ℕ → ℕ → List ℕ
 membersFrom zero b n = []
 membersFrom (suc k) b n = front (n % 2) b (membersFrom k (suc b) (n / 2))
 
--- the members of a set of states below 64, in rising order
+-- "A set is one 64-bit number": its members, in rising order
 unfoldable pub members : ℕ → List ℕ
 unfolding membersFrom
 members set = membersFrom 64 0 set

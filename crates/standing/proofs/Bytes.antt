@@ -152,20 +152,20 @@ module _ (B C : List ℕ) (b : Kept B) (c : Kept C) (e : sessionOf B ≡ session
   pub bytes-same : B ≡ C
   bytes-same =
       ext-getD 0 B C (b .whole ∙ sym (c .whole))
-      (λ k lt. go k lt (below-or k 1) (below-or k 2) (below-or k 322) (below-or k 450))
+      (λ k lt. go k lt (below-or k 1) (below-or k 2) (below-or k (lengthStart 0)) (below-or k (pieceStart 0)))
     where
-      go : (k : ℕ) → k < length B → (k < 1) ⊎ (1 ≤ k) → (k < 2) ⊎ (2 ≤ k) → (k < 322) ⊎ (322 ≤ k)
-          → (k < 450) ⊎ (450 ≤ k) → byte B k ≡ byte C k
+      go : (k : ℕ) → k < length B → (k < 1) ⊎ (1 ≤ k) → (k < 2) ⊎ (2 ≤ k) → (k < lengthStart 0) ⊎ (lengthStart 0 ≤ k)
+          → (k < pieceStart 0) ⊎ (pieceStart 0 ≤ k) → byte B k ≡ byte C k
       go k lt (inl x) y z u = let e : k ≡ 0 = omega arith in rw e depth-byte
       go k lt (inr w) (inl x) z u = let e : k ≡ 1 = omega arith in rw e count-byte
       go k lt (inr w) (inr x) (inl z) u =
           part-same 2 5 linkStart (omega arith) (λ i. refl) link-byte k x
           (λ le. let n = count-byte in b .unused .links k le z ∙ sym (c .unused .links k (omega arith) z))
       go k lt (inr w) (inr x) (inr z) (inl u) =
-          part-same 322 2 lengthStart (omega arith) (λ i. refl) length-byte k z
+          part-same (lengthStart 0) 2 lengthStart (omega arith) (λ i. refl) length-byte k z
           (λ le. let n = count-byte in b .unused .lengths k le u ∙ sym (c .unused .lengths k (omega arith) u))
       go k lt (inr w) (inr x) (inr z) (inr u) =
-          part-same 450 512 pieceStart (omega arith) (λ i. refl) piece-byte k u
+          part-same (pieceStart 0) pieceRoom pieceStart (omega arith) (λ i. refl) piece-byte k u
           (λ le.
           let n = count-byte in
           let m : k < size = omega (arith, b .whole) in

@@ -75,7 +75,7 @@ module _ (S : Session) (ok : Fits S) where
   link-of : (i j : ℕ) → i < linksCap → j < 5 → byte B (linkStart i + j) ≡ getD (linkBytes (entryOf S i .link)) j 0
   link-of i j lt le =
       let a = le-ltb (linkStart i + j) 2 (omega arith) in
-      let b = lt-ltb (linkStart i + j) 322 (omega arith) in
+      let b = lt-ltb (linkStart i + j) (lengthStart 0) (omega arith) in
       byte-of S (linkStart i + j) (omega arith)
       ∙ rw (a, b) (cell-at 2 5 (λ i. linkBytes (entryOf S i .link)) i j le)
 
@@ -83,18 +83,18 @@ module _ (S : Session) (ok : Fits S) where
       → byte B (lengthStart i + j) ≡ getD (lengthBytes (entryOf S i .piece)) j 0
   length-of i j lt le =
       let a = le-ltb (lengthStart i + j) 2 (omega arith) in
-      let b = le-ltb (lengthStart i + j) 322 (omega arith) in
-      let c = lt-ltb (lengthStart i + j) 450 (omega arith) in
+      let b = le-ltb (lengthStart i + j) (lengthStart 0) (omega arith) in
+      let c = lt-ltb (lengthStart i + j) (pieceStart 0) (omega arith) in
       byte-of S (lengthStart i + j) (omega arith)
-      ∙ rw (a, b, c) (cell-at 322 2 (λ i. lengthBytes (entryOf S i .piece)) i j le)
+      ∙ rw (a, b, c) (cell-at (lengthStart 0) 2 (λ i. lengthBytes (entryOf S i .piece)) i j le)
 
   piece-of : (i j : ℕ) → i < linksCap → j < pieceRoom → byte B (pieceStart i + j) ≡ getD (entryOf S i .piece) j 0
   piece-of i j lt le =
       let a = le-ltb (pieceStart i + j) 2 (omega arith) in
-      let b = le-ltb (pieceStart i + j) 322 (omega arith) in
-      let c = le-ltb (pieceStart i + j) 450 (omega arith) in
+      let b = le-ltb (pieceStart i + j) (lengthStart 0) (omega arith) in
+      let c = le-ltb (pieceStart i + j) (pieceStart 0) (omega arith) in
       byte-of S (pieceStart i + j) (omega arith)
-      ∙ rw (a, b, c) (cell-at 450 512 (λ i. entryOf S i .piece) i j le)
+      ∙ rw (a, b, c) (cell-at (pieceStart 0) pieceRoom (λ i. entryOf S i .piece) i j le)
 
   there : (i : ℕ) → i < length (S .entries) → entryOf S i among S .entries
   there i lt = getD-among (S .entries) i noEntry lt

@@ -15,34 +15,43 @@ use Rattle.meaning.specs.Answers.{linksCap}
 use Rattle.table.specs.File.{byte, two}
 use Rattle.standing.specs.Sessions.{Entry, entry, Session, Sound}
 
+-- where the five bytes of a link stand: behind depth and count
 abbrev pub linkStart : ℕ → ℕ
 linkStart i = 2 + 5 * i
 
+-- where the two bytes of a piece's length stand: behind 64 links
 abbrev pub lengthStart : ℕ → ℕ
 lengthStart i = 322 + 2 * i
 
+-- where a piece stands: behind 64 lengths, 512 places for each
 abbrev pub pieceStart : ℕ → ℕ
 pieceStart i = 450 + 512 * i
 
+-- no piece is longer than the highest waiting cap, 512
 abbrev pub pieceRoom : ℕ
 pieceRoom = 512
 
+-- how many bytes a session has: 450 and 64 times 512
 abbrev pub size : ℕ
 size = 33218
 
+-- how many links there are, byte 1
 abbrev pub countOf : List ℕ → ℕ
 countOf bytes = byte bytes 1
 
+-- the length of a piece
 abbrev pub lengthAt : List ℕ → ℕ → ℕ
 lengthAt bytes i = two bytes (lengthStart i)
 
+-- a pair, by its parts
 abbrev pub pair : ℕ → ℕ → Pair
 pair q m = record { state = q; marker = m }
 
--- the five bytes of a link, from a place on: level, pair, and the pair below, which a link at level 0 has none of
+-- the pair below, of the five bytes of a link from a place on
 abbrev pub belowFrom : List ℕ → ℕ → Pair
 belowFrom bytes k = pair (byte bytes (k + 3)) (byte bytes (k + 4))
 
+-- a link by its five bytes: level, pair, and the pair below, "none at level 0"
 abbrev pub linkFrom : List ℕ → ℕ → Link
 linkFrom bytes k =
     record {
@@ -51,23 +60,27 @@ linkFrom bytes k =
       below = cond (eqb (byte bytes k) 0) none (some (belowFrom bytes k));
     }
 
+-- the pair below, of a link by its number
 abbrev pub belowAt : List ℕ → ℕ → Pair
 belowAt bytes i = belowFrom bytes (linkStart i)
 
+-- a link by its number
 abbrev pub linkAt : List ℕ → ℕ → Link
 linkAt bytes i = linkFrom bytes (linkStart i)
 
--- a link at level 0 has nothing below, which is not used
+-- "none at level 0": the two bytes of the pair below are not used there
 abbrev pub NoneBelow : List ℕ → ℕ → Type 0
 NoneBelow bytes k = byte bytes k ≡ 0 → (byte bytes (k + 3) ≡ 0) × (byte bytes (k + 4) ≡ 0)
 
+-- a piece by its number: "Pieces are kept in the order of their links"
 abbrev pub pieceAt : List ℕ → ℕ → Word
 pieceAt bytes i = take (lengthAt bytes i) (drop (pieceStart i) bytes)
 
--- the session that the bytes stand for
+-- a link with its piece, by its number
 abbrev pub entryAt : List ℕ → ℕ → Entry
 entryAt bytes i = entry (linkAt bytes i) (pieceAt bytes i)
 
+-- the session that the bytes stand for
 abbrev pub sessionOf : List ℕ → Session
 sessionOf bytes = record { depth = byte bytes 0; entries = map (entryAt bytes) (upTo (countOf bytes)) }
 
@@ -88,25 +101,29 @@ pub record Kept (bytes : List ℕ) : Type 0 where
   pub short : (i : ℕ) → i < countOf bytes → lengthAt bytes i ≤ pieceRoom
   pub unused : Unused bytes
 
--- the bytes are a session that is sound for a table
+-- "which soundness checks too": the bytes are kept so, and their session is sound for a table
 pub record SoundBytes (T : Table) (bytes : List ℕ) : Type 0 where
   pub kept : Kept bytes
   pub sound : Sound T (sessionOf bytes)
 
--- the bytes of a session: a place that is not used is of no entry, and holds 0
+-- what stands where no entry is: bytes that are 0
 abbrev pub noEntry : Entry
 noEntry = entry (record { level = 0; here = pair 0 0; below = none }) []
 
+-- the entry of a session by its number, none past the last
 abbrev pub entryOf : Session → ℕ → Entry
 entryOf S i = getD (S .entries) i noEntry
 
+-- the two bytes of the pair below
 abbrev pub belowBytes : Option Pair → List ℕ
 belowBytes none = 0 ∷ 0 ∷ []
 belowBytes (some p) = p .state ∷ p .marker ∷ []
 
+-- the five bytes of a link
 abbrev pub linkBytes : Link → List ℕ
 linkBytes l = l .level ∷ l .here .state ∷ l .here .marker ∷ belowBytes (l .below)
 
+-- the two bytes of a piece's length, little-endian
 abbrev pub lengthBytes : Word → List ℕ
 lengthBytes x = length x % 256 ∷ length x / 256 ∷ []
 
@@ -114,6 +131,7 @@ lengthBytes x = length x % 256 ∷ length x / 256 ∷ []
 abbrev pub cell : ℕ → ℕ → (ℕ → List ℕ) → ℕ → ℕ
 cell s w things k = getD (things ((k - s) / w)) ((k - s) % w) 0
 
+-- the byte of a session at a place: depth, count, links, lengths, pieces
 abbrev pub byteOf : Session → ℕ → ℕ
 byteOf S k =
     cond (ltb k (linkStart 0)) (getD (S .depth ∷ length (S .entries) ∷ []) k 0)
@@ -121,5 +139,6 @@ byteOf S k =
     (cond (ltb k (pieceStart 0)) (cell (lengthStart 0) 2 (λ i. lengthBytes (entryOf S i .piece)) k)
     (cell (pieceStart 0) pieceRoom (λ i. entryOf S i .piece) k)))
 
+-- the bytes of a session: "one session only" for its trails, and one list of bytes for that
 unfoldable pub bytesOf : Session → List ℕ
 bytesOf S = map (byteOf S) (upTo size)

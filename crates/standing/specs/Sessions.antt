@@ -13,18 +13,21 @@ use Rattle.meaning.specs.Trails.{Trail, ground, over, height, Link, on, linkOf,
 use Rattle.meaning.specs.Living.{Place, place}
 use Rattle.meaning.specs.Answers.{linksCap, Moment}
 
--- "A session holds depth, links, and on each link a piece of output"
+-- "on each link a piece of output"
 pub record Entry : Type 0 where
   pub link : Link
   pub piece : Word
 
+-- "A session holds depth, links, and on each link a piece of output"
 pub record Session : Type 0 where
   pub depth : ℕ
   pub entries : List Entry
 
+-- a link with its piece, by its parts
 abbrev pub entry : Link → Word → Entry
 entry l x = record { link = l; piece = x }
 
+-- a session has a link, with this piece
 abbrev pub Has : Session → Link → Word → Type 0
 Has S l x = entry l x among S .entries
 
@@ -38,7 +41,7 @@ pub record Waits (S : Session) (t : Trail) (w : Word) : Type 0 where
   pub full : height t ≡ S .depth
   pub spells : Spells S t w
 
--- all words of a kind begin with one byte
+-- "common first byte": all words of a kind begin with one byte
 abbrev pub AllBegin : (Word → Type 0) → Type 0
 AllBegin P = (b : ℕ) × ((w : Word) → P w → Begins (b ∷ []) w)
 
@@ -61,7 +64,10 @@ Apart S =
 abbrev pub RisesByLink : List Entry → Type 0
 RisesByLink E = Rises (λ e. linkKey (e .link)) E
 
--- "It is sound for a table when", rule by rule; that no two links are the same is in `rise`
+-- "It is sound for a table when: depth is within the cap; there are 1 to 64 links, no two the same; states and markers
+-- are in range, marker 0 exactly at level 0; every link lies on a full trail from level 0 to the depth; no trail's
+-- waiting output is longer than the cap; and the waiting outputs have no common first byte. Two more rules" are `rise`,
+-- which also says that no two links are the same, and `apart`; and pieces are of bytes
 pub record Sound (T : Table) (S : Session) : Type 0 where
   pub depth : S .depth ≤ T .depthCap
   pub count : (1 ≤ length (S .entries)) × (length (S .entries) ≤ linksCap)
@@ -73,37 +79,43 @@ pub record Sound (T : Table) (S : Session) : Type 0 where
   pub apart : Apart S
   pub bytes : (l : Link) (x : Word) → Has S l x → Bytes x
 
--- whether a link has nothing below; whether it stands on the pair of another
+-- whether a link has nothing below
 abbrev pub onBottom : Link → Bool
 onBottom k = sameWord (linkKey k) (linkKey (linkOf (ground (k .here .state))))
 
+-- whether a link stands on the pair of another
 abbrev pub standsOn : Link → Link → Bool
 standsOn l k = sameWord (linkKey k) (linkKey (on (k .here .state) (k .here .marker) l))
 
--- the trails of a session with their waiting outputs, listed: those of each level, from those of the level under it
+-- the place of a link at level 0
 abbrev pub lowest : Entry → Place
 lowest e = place (ground (e .link .here .state)) (e .piece)
 
+-- a place one level up, by a link that stands on its top
 abbrev pub raised : Place → Entry → Place
 raised p e = place (over (e .link .here .state) (e .link .here .marker) (p .trail)) (p .output ++ e .piece)
 
+-- the trails from level 0 to a level with their waiting outputs, listed, from those of the level under it
 abbrev pub trailsAt : List Entry → ℕ → List Place
 trailsAt E zero = each (λ e. only (onBottom (e .link)) (lowest e)) E
 trailsAt E (suc i) = choices (λ p e. standsOn (linkOf (p .trail)) (e .link)) raised (trailsAt E i) E
 
+-- "its trails with their waiting outputs", listed
 abbrev pub trails : Session → List Place
 trails S = trailsAt (S .entries) (S .depth)
 
--- what a session stands for
+-- what a session stands for: "Step's meaning is fixed for every sound session" by this alone
 abbrev pub stands : Session → Moment
 stands S = record { depth = S .depth; waiting = trails S }
 
--- "Beginning gives empty pieces": an entry for each state of a list, and of a table those for its starting states
+-- "Beginning gives empty pieces": the entry of a state
 abbrev pub starts : ℕ → Entry
 starts q = entry (linkOf (ground q)) []
 
+-- the entries of states in a list, at depth 0
 abbrev pub started : List ℕ → Session
 started l = record { depth = 0; entries = map starts l }
 
+-- "Beginning gives empty pieces": an entry for each starting state
 abbrev pub beginning : Table → Session
 beginning T = started (T .starting)

@@ -20,60 +20,68 @@ inRanges T l =
     ltb (l .here .state) (T .states)
     && (leb (l .here .marker) (T .markers) && (cond no-marker lowest true && cond lowest no-marker true))
 
--- each link is below the next
+-- whether a side says that the first word is below the second
 abbrev pub isLower : Side → Bool
 isLower lower = true
 isLower same = false
 isLower upper = false
 
+-- "links rise strictly": each is below the next
 abbrev pub rising : List Entry → Bool
 rising [] = true
 rising (e ∷ []) = true
 rising (e ∷ f ∷ E) = isLower (side (linkKey (e .link)) (linkKey (f .link))) && rising (f ∷ E)
 
--- a link is not above the depth, and has nothing below or stands on one that is there
+-- "lies on a full trail", downward: a link is not above the depth, and has nothing below or stands on one that is there
 abbrev pub rooted : Session → Link → Bool
 rooted S l = leb (l .level) (S .depth) && (onBottom l || anyOf (λ f. standsOn (f .link) l) (S .entries))
 
--- the pieces on the links that pass a test
+-- "the pieces on the links that stand on it": those on the links that pass a test
 abbrev pub piecesOn : (Link → Bool) → List Entry → List Word
 piecesOn test E = each (λ e. only (test (e .link)) (e .piece)) E
 
--- all words of a list begin with one byte, as those of an empty list do
+-- whether a word begins with a byte
 abbrev pub startsWith : ℕ → Word → Bool
 startsWith b [] = false
 startsWith b (c ∷ w) = eqb b c
 
+-- "common first byte": whether all words of a list have one, as those of an empty list do
 abbrev pub allBegin : List Word → Bool
 allBegin [] = true
 allBegin ([] ∷ l) = false
 allBegin ((b ∷ w) ∷ l) = every (startsWith b) l
 
--- a link below the depth carries others, whose pieces have no common first byte
+-- "lies on a full trail", upward, and "no common first byte": a link below the depth carries others, whose pieces share
+-- none
 abbrev pub carries : Session → Link → Bool
 carries S l = eqb (l .level) (S .depth) || not (allBegin (piecesOn (standsOn l) (S .entries)))
 
--- for each entry the most that waits from it upward: what stands on it comes after it
+-- a link with the most that waits from it upward
 pub record Load : Type 0 where
   pub link : Link
   pub bytes : ℕ
 
+-- the most that waits from any link that passes a test
 abbrev pub most : (Link → Bool) → List Load → ℕ
 most test [] = 0
 most test (h ∷ H) = cond (test (h .link)) (max (h .bytes) (most test H)) (most test H)
 
+-- for each entry the most that waits from it upward: what stands on it comes after it
 abbrev pub loads : List Entry → List Load
 loads [] = []
 loads (e ∷ E) =
     let H = loads E in
     record { link = e .link; bytes = length (e .piece) + most (standsOn (e .link)) H } ∷ H
 
+-- "no trail's waiting output is longer than the cap": the longest
 abbrev pub longest : List Entry → ℕ
 longest E = most onBottom (loads E)
 
+-- whether all numbers of a piece are bytes
 abbrev pub inBytes : Word → Bool
 inBytes w = every (λ b. ltb b 256) w
 
+-- "It is sound for a table when", rule by rule, as one test: `soundly-exact`
 abbrev pub soundly : Table → Session → Bool
 soundly T S =
     leb (S .depth) (T .depthCap)

@@ -26,7 +26,7 @@ use Rattle.standing.proofs.RoundTrip.{piece-short}
 use Rattle.stepping.specs.Stepping.{movedTo, follow, grow, conflict, keep, lower, kept, shaken, push}
 use Rattle.stepping.proofs.Feet.{seat-exact}
 use Rattle.stepping.proofs.Keep.{keep-among}
-use Rattle.stepping.proofs.Tops.{Rest, parts, Tops, lower-out}
+use Rattle.stepping.proofs.Tops.{Rest, Tops, lower-out}
 use Rattle.stepping.proofs.Follow.{popped}
 use Rattle.stepping.proofs.Grow.{grow-out, grow-level, grow-tops}
 use Rattle.stepping.proofs.Shake.{shake-out, shaken-rises, shaken-lies, shaken-exact}
@@ -119,17 +119,6 @@ module _ (T : Table) (good : Good edition1 T) (S : Session) (ok : Sound T S) whe
           subst (λ (p : Pair). (p .state < 64) × (p .marker ≤ 64)) i
           (omega (arith, b .state, good .states .1), omega (arith, b .marker, good .markers))
 
-  pub has-small : (l : Link) (x : Word) → Has S l x → Small l
-  has-small l x h =
-      let p = lies-spelled S (ok .lies) l x h in
-      let s = parts S (p .0) (p .1) (p .3) in
-      let e = ap (λ (l : Link). l .level) (p .2) in
-      tops-small (record { trail = p .0; rest = s .0; is = p .2; below = s .2 }) (ok .ranges l x h)
-      (omega (arith, level-linkOf (p .0), p .4, ok .depth))
-
-  pub lower-small : (n : ℕ) (e : Entry) → e among lower n (S .entries) → Small (e .link)
-  lower-small n e m = has-small (e .link) (e .piece) (lower-out n (S .entries) m .0)
-
   -- an entry that follows by a row: its link is in range, its piece is made of what was there and the row's word
   record Came (r : Row) (z : Entry) : Type 0 where
     ranges : Ranges T (z .link)
@@ -221,22 +210,6 @@ module _ (T : Table) (good : Good edition1 T) (S : Session) (ok : Sound T S) whe
     pub grow-small : deeper (T .class a) (S .depth) ≤ T .depthCap → (z : Entry) → z among grow T S a → Small (z .link)
     grow-small le z m =
         tops-small (grow-tops T S a (ok .lies) z m) (grow-ranges z m) (omega (arith, grow-level T S a z m))
-
-    -- what is kept
-    pub kept-short : (z : Entry) → z among kept T S a .entries → length (z .piece) ≤ 767
-    kept-short z m = go (kept-cases T S a z m)
-      where
-        go : (z among S .entries) ⊎ (z among grow T S a) → length (z .piece) ≤ 767
-        go (inl n) = omega (arith, piece-short T good S ok z n)
-        go (inr n) = grow-short z n
-
-    pub kept-small : deeper (T .class a) (S .depth) ≤ T .depthCap → (z : Entry) → z among kept T S a .entries
-        → Small (z .link)
-    kept-small le z m = go (kept-cases T S a z m)
-      where
-        go : (z among S .entries) ⊎ (z among grow T S a) → Small (z .link)
-        go (inl n) = has-small (z .link) (z .piece) n
-        go (inr n) = grow-small le z n
 
     -- what is pushed is no longer than an output that moved, which is one that waited with a word
     pub pushed-short : conflict [] (grow T S a) ≡ false → (l : Link) (y : Word)

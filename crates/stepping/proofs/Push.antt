@@ -3,7 +3,7 @@ use mathlib.Core.Path.{_≡_, refl, sym, _∙_, ap, subst}
 use mathlib.Core.Logic.{_⊎_, inl, inr}
 use mathlib.Core.Bool.{Bool, true, false}
 use mathlib.Core.Option.{some}
-use mathlib.Core.List.{List, [], _∷_, _++_, map, List·Memᴰ·head, Memᴰ·cast, Memᴰ·map, Memᴰ·of-map, Memᴰ·append-right}
+use mathlib.Core.List.{List, [], _∷_, _++_, map, List·Memᴰ·head, Memᴰ·cast, Memᴰ·map, Memᴰ·of-map}
 use mathlib.Core.List.{List·Memᴰ·tail, List·Memᴰ·cases-cons, List·Memᴰ·append-cases}
 use Prim.Native.Nat.{ℕ, suc, _≤_}
 use native.Mathlib.Omega.{arith}
@@ -57,16 +57,6 @@ push-is (e ∷ E) r =
     push-is E (r .1) ∙ map-same (pushed (push E)) (pushed (k ∷ push E)) E
     (λ f m. again f (level-less (e .link) (f .link) (r .0 f m))) in
     cc
-
--- an entry anywhere is handed what those after it have in common, which is what all have
-pub push-whole : (F : List Entry) (e : Entry) (E : List Entry) → RisesByLink (F ++ e ∷ E)
-    → base (push E) (seat (e .link)) ≡ base (push (F ++ e ∷ E)) (seat (e .link))
-push-whole [] e E r = sym (base-after (pushed (push E) e) (push E) (e .link) (omega arith))
-push-whole (f ∷ F) e E r =
-    let K = push (F ++ e ∷ E) in
-    push-whole F e E (r .1)
-    ∙ sym (base-after (pushed K f) K (e .link)
-    (level-less (f .link) (e .link) (r .0 e (Memᴰ·append-right F (List·Memᴰ·head refl)))))
 
 module _ (E : List Entry) (rise : RisesByLink E) where
   pub push-in : (l : Link) (x : Word) → entry l x among E → entry l (x ++ base (push E) (seat l)) among push E

@@ -21,13 +21,15 @@ pub record Numbered (file session : List ℕ) (by-trails number : ℕ) : Type 0 
   pub bad-session : Good first file → (number ≡ 2) ↔ (SoundBytes (tableOf file) session → ⊥)
   pub otherwise : Good first file → SoundBytes (tableOf file) session → number ≡ by-trails
 
--- a step by the rules in a file from the session in some bytes: its number, what it sends, and what then waits
+-- the number of a step by the rules in a file, from the session in some bytes
 abbrev pub numberOn : List ℕ → List ℕ → ℕ → ℕ → ℕ
 numberOn file session symbol room = stepNumber (tableOf file) room (stands (sessionOf session)) symbol
 
+-- what that step sends
 abbrev pub sendsOn : List ℕ → List ℕ → ℕ → Word
 sendsOn file session symbol = sends (tableOf file) (stands (sessionOf session)) symbol
 
+-- what the session stands for after it
 abbrev pub followsOn : List ℕ → List ℕ → ℕ → Moment
 followsOn file session symbol = follows (tableOf file) (stands (sessionOf session)) symbol
 
@@ -44,10 +46,11 @@ pub record Stepped (file session : List ℕ) (symbol : ℕ) (out : List ℕ) (nu
   pub waiting : number ≡ 0 → (p : Place)
       → (p among trails (sessionOf session′)) ↔ (p among followsOn file session symbol .waiting)
 
--- finish by the rules in a file from the session in some bytes: its number, and what it writes
+-- the number of finish by the rules in a file, of the session in some bytes
 abbrev pub finishOn : List ℕ → List ℕ → ℕ → ℕ
 finishOn file session room = finishNumber (tableOf file) room (stands (sessionOf session))
 
+-- "what still waits": what that finish writes
 abbrev pub restOn : List ℕ → List ℕ → Word
 restOn file session = common (accepted (tableOf file) (trails (sessionOf session)))
 

@@ -10,12 +10,12 @@ use Rattle.table.specs.Good.{first, Good}
 use Rattle.table.specs.declared.read.Class.{Class}
 use Rattle.table.specs.declared.read.Class.the-variants.{Unused, Call, Return, Internal}
 
--- "BadTable: the file breaks a rule above"
+-- 1 BadTable: "the file breaks a rule above"; "Check and begin: 1"
 pub record Judged (file : List ℕ) (number : ℕ) : Type 0 where
   pub good : (number ≡ 0) ↔ Good first file
   pub bad : (number ≡ 1) ↔ (Good first file → ⊥)
 
--- the class that a variant stands for
+-- the class that a variant of the code stands for
 abbrev pub meant : Class → Kind
 meant Unused = unused
 meant Call = call
@@ -33,10 +33,11 @@ pub record FirstRow (file : List ℕ) (symbol from r : ℕ) : Type 0 where
   pub before : (k : ℕ) → k < r → Before (rowAt file k) symbol from
   pub onward : (k : ℕ) → r ≤ k → k < rowCount file → Before (rowAt file k) symbol from → ⊥
 
--- what functions inside ask: that a row, and its word, stand in the file
+-- what functions inside ask: that a row stands in the file
 abbrev pub RowIn : List ℕ → ℕ → Type 0
 RowIn file i = rowStart i + 8 ≤ length file
 
+-- what functions inside ask: that a row and its word stand in the file
 pub record WordIn (file : List ℕ) (i : ℕ) : Type 0 where
   pub row : RowIn file i
   pub word : wordsStart file + two file (rowStart i + 4) + byte file (rowStart i + 6) ≤ length file

@@ -9,26 +9,31 @@ use Rattle.words.specs.Words.{Word}
 use Rattle.meaning.specs.Table.{Class, unused, call, return, internal, Row, Table}
 use Rattle.sets.specs.Sets.{members}
 
--- "numbers little-endian"
+-- the byte at a place; past the end 0, which no rule of a good file asks for
 abbrev pub byte : List ℕ → ℕ → ℕ
 byte file i = getD file i 0
 
+-- "numbers little-endian", of two bytes
 abbrev pub two : List ℕ → ℕ → ℕ
 two file i = byte file i + 256 * byte file (i + 1)
 
+-- "A set is one 64-bit number", little-endian
 unfoldable pub eight : List ℕ → ℕ → ℕ
 eight file i = two file i + 65536 * (two file (i + 2) + 65536 * (two file (i + 4) + 65536 * two file (i + 6)))
 
--- "rows (8 bytes each)", from byte 300, and the words behind them; their lengths stand in the fourth and fifth entry
+-- "8 bytes each": how many rows there are, by the length in the fourth entry
 abbrev pub rowCount : List ℕ → ℕ
 rowCount file = two file 22 / 8
 
+-- where a row stands: the rows body starts at byte 300
 abbrev pub rowStart : ℕ → ℕ
 rowStart i = 300 + 8 * i
 
+-- where the words body starts: behind the rows, "with no gap"
 abbrev pub wordsStart : List ℕ → ℕ
 wordsStart file = 300 + 8 * rowCount file
 
+-- the length in the fifth entry
 abbrev pub wordsLength : List ℕ → ℕ
 wordsLength file = two file 26
 
@@ -48,14 +53,15 @@ rowAt file i =
       word = wordOf file i;
     }
 
--- "Each symbol 0 to 255 has a class: 0 unused, 1 call, 2 return, 3 internal"; the classes stand from byte 28
+-- "0 unused, 1 call, 2 return, 3 internal"
 abbrev pub classOf : ℕ → Class
 classOf n = cond (eqb n 0) unused (cond (eqb n 1) call (cond (eqb n 2) return internal))
 
+-- "Each symbol 0 to 255 has a class": the classes stand from byte 28
 abbrev pub classAt : List ℕ → ℕ → Class
 classAt file a = cond (ltb a 256) (classOf (byte file (28 + a))) unused
 
--- the table that a file stands for
+-- "The meaning of a table" is that of the table that a file stands for
 unfoldable pub tableOf : List ℕ → Table
 tableOf file =
     record {

@@ -12,9 +12,12 @@ pub record Edition : Type 0 where
   pub number : ℕ
   pub limits : Limits
 
+-- "edition, 1"
 abbrev pub first : Edition
 first = record { number = 1; limits = edition1 }
 
+-- bytes 0 to 7: "edition, 1 … states, 1 to 64 … markers, 0 to 64 … depth cap, 1 to 32 … waiting cap, 0 to 512 … length
+-- of the whole file"
 pub record Head (E : Edition) (file : List ℕ) : Type 0 where
   pub long : 8 ≤ length file
   pub edition : byte file 0 ≡ E .number
@@ -51,9 +54,11 @@ pub record Sets (file : List ℕ) : Type 0 where
   pub some : 0 < eight file 284
   pub final : eight file 292 < 2 ^ byte file 1
 
+-- "Marker is 0 for an internal row, else 1 to the marker count", of a row by its place
 abbrev pub MarkAt : List ℕ → ℕ → Type 0
 MarkAt file i = MarkFits (classAt file (rowAt file i .symbol)) (byte file 2) (rowAt file i .marker)
 
+-- "States are below the state count"; its word "lies wholly inside"; "zero (1)"
 pub record RowFits (file : List ℕ) (i : ℕ) : Type 0 where
   pub marker : MarkAt file i
   pub from : rowAt file i .from < byte file 1
@@ -61,14 +66,17 @@ pub record RowFits (file : List ℕ) (i : ℕ) : Type 0 where
   pub word : two file (rowStart i + 4) + byte file (rowStart i + 6) ≤ wordsLength file
   pub zero : byte file (rowStart i + 7) ≡ 0
 
--- "Rows rise strictly by symbol, from, marker, to, then word in byte order"
+-- "Rows rise strictly by symbol, from, marker, to, then word in byte order, a beginning before what it begins": one row
+-- and the next
 pub record Rising (file : List ℕ) (i : ℕ) : Type 0 where
   pub less : Less (rowKey (rowAt file i)) (rowKey (rowAt file (i + 1)))
 
+-- what is asked of each row, and of each and the next
 pub record Rows (file : List ℕ) : Type 0 where
   pub fit : (i : ℕ) → i < rowCount file → RowFits file i
   pub rise : (i : ℕ) → i + 1 < rowCount file → Rising file i
 
+-- "the file breaks a rule above": it breaks none, part by part in file order
 pub record Good (E : Edition) (file : List ℕ) : Type 0 where
   pub head : Head E file
   pub contents : Contents E file

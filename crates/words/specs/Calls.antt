@@ -8,6 +8,7 @@ use Rattle.words.specs.Order.{Side, lower, same, upper}
 use Rattle.words.specs.declared.byte_order.Order.{Order}
 use Rattle.words.specs.declared.byte_order.Order.the-variants.{Before, Same, After}
 
+-- the side that an answer of `compare` stands for
 abbrev pub sideOf : Order → Side
 sideOf Before = lower
 sideOf Same = same

@@ -5,6 +5,7 @@ use mathlib.Core.Bool.{Bool, true, false, _&&_, _||_}
 use Prim.Native.Nat.{ℕ, zero, suc}
 use mathlib.Core.List.{List, [], _∷_, _++_, List·Memᴰ}
 
+-- a thing is in a list; all that is said of links, rows and runs that are listed is said with it
 infix 50 _among_
 abbrev pub _among_ : {A : Type 0} → A → List A → Type 0
 x among l = List·Memᴰ x l
@@ -27,16 +28,17 @@ choices test make X Y = each (λ x. each (λ y. only (test x y) (make x y)) Y) X
 abbrev pub Exact : Type 0 → Bool → Type 0
 Exact P b = P ↔ (b ≡ true)
 
--- a test passes for all in a list; for some in a list
+-- a test passes for all in a list
 abbrev pub every : {A : Type 0} → (A → Bool) → List A → Bool
 every f [] = true
 every f (x ∷ l) = f x && every f l
 
+-- a test passes for some in a list
 abbrev pub anyOf : {A : Type 0} → (A → Bool) → List A → Bool
 anyOf f [] = false
 anyOf f (x ∷ l) = f x || anyOf f l
 
--- the numbers below `n`
+-- the numbers below `n`, rising: the places of a list
 abbrev pub upTo : ℕ → List ℕ
 upTo zero = []
 upTo (suc n) = upTo n ++ n ∷ []
@@ -46,6 +48,7 @@ abbrev pub Distinct : {A : Type 0} → List A → Type 0
 Distinct [] = Unit {0}
 Distinct (x ∷ l) = (x among l → ⊥) × Distinct l
 
+-- whether a list has nothing in it
 abbrev pub isEmpty : {A : Type 0} → List A → Bool
 isEmpty [] = true
 isEmpty (x ∷ l) = false

@@ -6,10 +6,11 @@ use lib.Bits.{bitOr}
 use lib.ListN.{length, getD}
 use Rattle.words.specs.Words.{Word}
 
--- together with `all`
+-- the numbers of a word and `all` taken together by or: small exactly when each of them is
 abbrev pub together : ℕ → Word → ℕ
 together all [] = all
 together all (x ∷ w) = together (bitOr all x) w
 
+-- "hold 0": all places of a word do
 pub record AllZero (w : Word) : Type 0 where
   pub each : (k : ℕ) → k < length w → getD w k 0 ≡ 0

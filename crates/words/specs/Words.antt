@@ -6,6 +6,7 @@ use Prim.Native.Nat.{ℕ, _<_}
 use lib.Dec.{eqb}
 use Rattle.words.specs.Lists.{_among_}
 
+-- a word, a message and an output are lists of numbers; which of them are bytes is said where it matters
 abbrev pub Word : Type 0
 Word = List ℕ
 
@@ -13,23 +14,23 @@ Word = List ℕ
 abbrev pub Bytes : Word → Type 0
 Bytes w = (b : ℕ) → b among w → b < 256
 
--- `xs` is a beginning of `ys`
+-- `xs` is a beginning of `ys`: some rest joined behind it gives `ys`
 pub record Begins (xs ys : Word) : Type 0 where
   pub rest : Word
   pub joins : xs ++ rest ≡ ys
 
--- of two words
+-- 004, section 1, u ∧ v: the longest common beginning of two words
 abbrev pub shared : Word → Word → Word
 shared [] ys = []
 shared (x ∷ xs) [] = []
 shared (x ∷ xs) (y ∷ ys) = cond (eqb x y) (x ∷ shared xs ys) []
 
--- of a word and the words of a list
+-- the longest common beginning of a word and the words of a list
 abbrev pub commonOf : Word → List Word → Word
 commonOf w [] = w
 commonOf w (v ∷ l) = shared w (commonOf v l)
 
--- of the words of a list; the empty list has none, and is given the empty word
+-- 004, section 1, lcp: of the words of a list; the empty list has none, and is given the empty word
 abbrev pub common : List Word → Word
 common [] = []
 common (w ∷ l) = commonOf w l
