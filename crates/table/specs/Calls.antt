@@ -9,6 +9,7 @@ use Rattle.table.specs.File.{byte, two, rowCount, rowStart, wordsStart, 
 use Rattle.table.specs.Good.{first, Good}
 use Rattle.table.specs.declared.read.Class.{Class}
 use Rattle.table.specs.declared.read.Class.the-variants.{Unused, Call, Return, Internal}
+use Rattle.table.specs.declared.read.Rows.{Rows}
 
 -- "BadTable: the file breaks a rule above"
 pub record Judged (file : List ℕ) (number : ℕ) : Type 0 where
@@ -32,6 +33,11 @@ pub record FirstRow (file : List ℕ) (symbol from r : ℕ) : Type 0 where
   pub within : r ≤ rowCount file
   pub before : (k : ℕ) → k < r → Before (rowAt file k) symbol from
   pub onward : (k : ℕ) → r ≤ k → k < rowCount file → Before (rowAt file k) symbol from → ⊥
+
+-- the rows of a symbol from a state: from the first of them on, up to where those from the next state would stand
+pub record RowsFrom (file : List ℕ) (symbol from : ℕ) (r : Rows) : Type 0 where
+  pub starts : FirstRow file symbol from (r .first)
+  pub ends : FirstRow file symbol (from + 1) (r .end)
 
 -- what functions inside ask: that a row, and its word, stand in the file
 abbrev pub RowIn : List ℕ → ℕ → Type 0

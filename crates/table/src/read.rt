@@ -8,7 +8,7 @@ ghost use Rattle.words.specs.Lists.{Exact};
 ghost use Rattle.table.specs.File.{rowCount, rowAt, wordOf, tableOf};
 ghost use Rattle.sets.specs.Sets.{members};
 ghost use Rattle.table.specs.Good.{first, Good};
-ghost use Rattle.table.specs.Calls.{meant, WordIn, Before, FirstRow};
+ghost use Rattle.table.specs.Calls.{meant, WordIn, Before, FirstRow, RowsFrom};
 
 pub fn states(file: &[u8]) -> usize
     requires { ⌜ Good first (now file) ⌝ }
@@ -151,4 +151,29 @@ pub fn first_row(file: &[u8], symbol: u8, from: usize) -> usize
         }
     }
     low
+}
+
+// The rows of a symbol from a state, which stand side by side: those from `first` on that are below `end`.
+pub struct Rows {
+    pub first: usize,
+    pub end: usize,
+}
+
+pub fn rows_from(file: &[u8], symbol: u8, from: usize) -> Rows
+    requires { ⌜ Good first (now file) ⌝ }
+    ensures { λ r. ⌜ RowsFrom (now (file .entry)) symbol from r ⌝ }
+{
+    let n = row_count(file);
+    let first = first_row(file, symbol, from);
+    let mut end = first;
+    while end < n {
+        if row_symbol(file, end) != wide(symbol) {
+            return Rows { first, end };
+        }
+        if row_from(file, end) != from {
+            return Rows { first, end };
+        }
+        end += 1;
+    }
+    Rows { first, end }
 }
