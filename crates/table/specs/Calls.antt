@@ -4,8 +4,10 @@ use mathlib.Core.Logic.{_↔_}
 use mathlib.Core.List.{List}
 use Prim.Native.Nat.{ℕ, _+_, _*_, _<_, _≤_}
 use lib.ListN.{length}
+use Rattle.words.specs.LittleEndian.{byte, two}
+use Rattle.meaning.specs.Parts.{rowSize}
 use Rattle.meaning.specs.Table.{Class as Kind, unused, call, return, internal, Row}
-use Rattle.table.specs.File.{byte, two, rowCount, rowStart, wordsStart, rowAt}
+use Rattle.table.specs.File.{rowCount, rowStart, wordsStart, rowAt}
 use Rattle.table.specs.Good.{first, Good}
 use Rattle.table.specs.declared.read.Class.{Class}
 use Rattle.table.specs.declared.read.Class.the-variants.{Unused, Call, Return, Internal}
@@ -41,7 +43,7 @@ pub record RowsFrom (file : List ℕ) (symbol from : ℕ) (r : Rows) : Type 0 wh
 
 -- what functions inside ask: that a row, and its word, stand in the file
 abbrev pub RowIn : List ℕ → ℕ → Type 0
-RowIn file i = rowStart i + 8 ≤ length file
+RowIn file i = rowStart i + rowSize ≤ length file
 
 pub record WordIn (file : List ℕ) (i : ℕ) : Type 0 where
   pub row : RowIn file i

@@ -3,34 +3,27 @@ use mathlib.Core.Bool.{cond}
 use mathlib.Core.List.{List, map}
 use Prim.Native.Nat.{ℕ, _+_, _*_, _/_}
 use lib.Dec.{eqb, ltb}
-use lib.ListN.{getD, take, drop}
+use lib.ListN.{take, drop}
 use Rattle.words.specs.Lists.{upTo}
+use Rattle.words.specs.LittleEndian.{byte, two, eight}
 use Rattle.words.specs.Words.{Word}
+use Rattle.meaning.specs.Parts.{rowsEntry, wordsEntry, rowSize, classCount}
+use Rattle.meaning.specs.Parts.{classesStart, startingStart, finalStart, rowsStart}
 use Rattle.meaning.specs.Table.{Class, unused, call, return, internal, Row, Table}
 use Rattle.sets.specs.Sets.{members}
 
--- "numbers little-endian"
-abbrev pub byte : List ℕ → ℕ → ℕ
-byte file i = getD file i 0
-
-abbrev pub two : List ℕ → ℕ → ℕ
-two file i = byte file i + 256 * byte file (i + 1)
-
-unfoldable pub eight : List ℕ → ℕ → ℕ
-eight file i = two file i + 65536 * (two file (i + 2) + 65536 * (two file (i + 4) + 65536 * two file (i + 6)))
-
--- "rows (8 bytes each)", from byte 300, and the words behind them; their lengths stand in the fourth and fifth entry
+-- "rows (8 bytes each …); words": their lengths stand in the fourth and fifth entry
 abbrev pub rowCount : List ℕ → ℕ
-rowCount file = two file 22 / 8
+rowCount file = two file (rowsEntry + 2) / rowSize
 
 abbrev pub rowStart : ℕ → ℕ
-rowStart i = 300 + 8 * i
+rowStart i = rowsStart + rowSize * i
 
 abbrev pub wordsStart : List ℕ → ℕ
-wordsStart file = 300 + 8 * rowCount file
+wordsStart file = rowsStart + rowSize * rowCount file
 
 abbrev pub wordsLength : List ℕ → ℕ
-wordsLength file = two file 26
+wordsLength file = two file (wordsEntry + 2)
 
 -- "For each row, its word is the part of the words body from that start for that length"
 abbrev pub wordOf : List ℕ → ℕ → Word
@@ -48,12 +41,12 @@ rowAt file i =
       word = wordOf file i;
     }
 
--- "Each symbol 0 to 255 has a class: 0 unused, 1 call, 2 return, 3 internal"; the classes stand from byte 28
+-- "Each symbol 0 to 255 has a class: 0 unused, 1 call, 2 return, 3 internal"
 abbrev pub classOf : ℕ → Class
 classOf n = cond (eqb n 0) unused (cond (eqb n 1) call (cond (eqb n 2) return internal))
 
 abbrev pub classAt : List ℕ → ℕ → Class
-classAt file a = cond (ltb a 256) (classOf (byte file (28 + a))) unused
+classAt file a = cond (ltb a classCount) (classOf (byte file (classesStart + a))) unused
 
 -- the table that a file stands for
 unfoldable pub tableOf : List ℕ → Table
@@ -64,7 +57,7 @@ tableOf file =
       depthCap = byte file 3;
       waitingCap = two file 4;
       class = classAt file;
-      starting = members (eight file 284);
-      final = members (eight file 292);
+      starting = members (eight file startingStart);
+      final = members (eight file finalStart);
       rows = map (rowAt file) (upTo (rowCount file));
     }
