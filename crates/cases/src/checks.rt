@@ -4,7 +4,7 @@ use crate::tables::g;
 use crate::tables::put;
 ghost use Prim.Native.Nat.{_<_, _≤_};
 
-pub fn all() {
+pub(crate) fn all() {
     changed(b"G", 0, b"");
     head_faults();
     contents_faults();
@@ -17,7 +17,7 @@ pub fn all() {
 }
 
 // The number that `check` gives back.
-pub fn number(file: &[u8]) -> u64 {
+pub(crate) fn number(file: &[u8]) -> u64 {
     1 - taken(file)
 }
 

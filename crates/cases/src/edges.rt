@@ -9,7 +9,7 @@ use crate::pairs::numbered;
 use crate::pairs::outer;
 use crate::tables::put;
 
-pub fn all() {
+pub(crate) fn all() {
     first_words();
     states();
     markers();

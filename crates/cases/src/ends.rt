@@ -11,7 +11,7 @@ use crate::tables::put;
 use places::SIZE;
 ghost use Prim.Native.Nat.{_≤_};
 
-pub fn all() {
+pub(crate) fn all() {
     ends_of_g();
     refusals();
     forks();

@@ -22,7 +22,7 @@ ghost use Prim.Native.Nat.{_≤_};
 // A room of dots with more than the largest file.
 pub const ROOM: usize = 6500;
 
-pub fn all() {
+pub(crate) fn all() {
     worked();
     worked_otherwise();
     bad_tables();
@@ -103,7 +103,7 @@ fn changed(out: &[u8], from: usize) -> u64 {
 }
 
 // A join with so much room.
-pub fn tried(name: &[u8], first: &[u8; LARGEST], second: &[u8; LARGEST], room: usize)
+pub(crate) fn tried(name: &[u8], first: &[u8; LARGEST], second: &[u8; LARGEST], room: usize)
     requires { ⌜ room ≤ 6500 ⌝ }
 {
     let mut out = [46u8; ROOM];
@@ -112,7 +112,7 @@ pub fn tried(name: &[u8], first: &[u8; LARGEST], second: &[u8; LARGEST], room: u
 }
 
 // A join, and the rows that it gives.
-pub fn shown(name: &[u8], first: &[u8; LARGEST], second: &[u8; LARGEST]) {
+pub(crate) fn shown(name: &[u8], first: &[u8; LARGEST], second: &[u8; LARGEST]) {
     let mut out = [46u8; ROOM];
     let said = in_numbers(lent(whole(first), whole(second), &mut out[..], ROOM));
     tell(name, said, &out);

@@ -4,7 +4,7 @@ ghost use Prim.Native.Nat.{_≤_};
 ghost use lib.ListN.{length};
 
 // One line: what was tried, and the number.
-pub fn say(name: &[u8], n: u64) {
+pub(crate) fn say(name: &[u8], n: u64) {
     io::write_all(1, name);
     io::write_all(1, b": ");
     io::print_decimal(1, n);
@@ -12,7 +12,7 @@ pub fn say(name: &[u8], n: u64) {
 }
 
 // The number and the byte count that a call gave.
-pub fn told(n: u64, count: u64) {
+pub(crate) fn told(n: u64, count: u64) {
     io::print_decimal(1, n);
     io::write_all(1, b" ");
     io::print_decimal(1, count);
@@ -20,7 +20,7 @@ pub fn told(n: u64, count: u64) {
 }
 
 // The depth of a session, and how many links it has.
-pub fn held(session: &[u8; SIZE]) {
+pub(crate) fn held(session: &[u8; SIZE]) {
     io::print_decimal(1, places::depth(session) as u64);
     io::write_all(1, b" ");
     io::print_decimal(1, places::count(session) as u64);
@@ -28,7 +28,7 @@ pub fn held(session: &[u8; SIZE]) {
 }
 
 // How many bytes have a value.
-pub fn having(bytes: &[u8], value: u8) -> u64
+pub(crate) fn having(bytes: &[u8], value: u8) -> u64
     ensures { λ r. ⌜ r ≤ length (now (bytes .entry)) ⌝ }
 {
     let mut sum: u64 = 0;

@@ -1,7 +1,7 @@
 // Tables to be joined: rule files laid from their parts, in a room that holds the largest. A file says in its head how
 // long it is.
 use crate::tables::put;
-use table::load_two;
+use words::load_two;
 use words::wide;
 ghost use Prim.Native.Nat.{_+_, _*_, _<_, _≤_};
 ghost use lib.ListN.{length};
@@ -10,7 +10,7 @@ pub const LARGEST: usize = 6444;
 
 // A table from its parts: states, markers, depth cap and waiting cap; a symbol and its class in turn; symbol, from, to,
 // marker and the length of the word of each row; and the words in row order. State 0 starts and is final.
-pub fn laid(head: &[u8], classes: &[u8], rows: &[u8], words: &[u8]) -> [u8; LARGEST] {
+pub(crate) fn laid(head: &[u8], classes: &[u8], rows: &[u8], words: &[u8]) -> [u8; LARGEST] {
     let mut bytes = [0u8; LARGEST];
     let file = &mut bytes[..];
     put(file, 0, b"\x01");
@@ -94,7 +94,7 @@ fn put_two(file: &mut [u8], at: usize, n: usize) {
 }
 
 // So much of a slice from its start, or all of one that is shorter.
-pub fn part(bytes: &[u8], n: usize) -> &[u8] {
+pub(crate) fn part(bytes: &[u8], n: usize) -> &[u8] {
     if bytes.len() < n {
         return bytes;
     }
@@ -102,23 +102,23 @@ pub fn part(bytes: &[u8], n: usize) -> &[u8] {
 }
 
 // The file in its room.
-pub fn whole(file: &[u8; LARGEST]) -> &[u8] {
+pub(crate) fn whole(file: &[u8; LARGEST]) -> &[u8] {
     let all = &file[..];
     part(all, load_two(all, 6))
 }
 
 // A first table: `(` and `<` call, `)` and `>` return, `x` is internal.
-pub fn outer(head: &[u8], rows: &[u8], words: &[u8]) -> [u8; LARGEST] {
+pub(crate) fn outer(head: &[u8], rows: &[u8], words: &[u8]) -> [u8; LARGEST] {
     laid(head, b"(\x01)\x02<\x01>\x02x\x03", rows, words)
 }
 
 // A second table: `[` and `{` call, `]` and `}` return, `a` and `b` are internal.
-pub fn inner(head: &[u8], rows: &[u8], words: &[u8]) -> [u8; LARGEST] {
+pub(crate) fn inner(head: &[u8], rows: &[u8], words: &[u8]) -> [u8; LARGEST] {
     laid(head, b"[\x01]\x02{\x01}\x02a\x03b\x03", rows, words)
 }
 
 // A first table of many symbols: 1 to 65 have one class, and there are the first n of these rows.
-pub fn many(class: u8, rows: &[u8; 325], n: usize, words: &[u8]) -> [u8; LARGEST]
+pub(crate) fn many(class: u8, rows: &[u8; 325], n: usize, words: &[u8]) -> [u8; LARGEST]
     requires { ⌜ n ≤ 65 ⌝ }
 {
     let mut file = laid(b"\x01\x21\x04\x04", b"", part(&rows[..], 5 * n), words);
@@ -128,7 +128,7 @@ pub fn many(class: u8, rows: &[u8; 325], n: usize, words: &[u8]) -> [u8; LARGEST
 }
 
 // The parts of n rows for it, symbol after symbol, with a word of one byte; those of calls have marker after marker.
-pub fn numbered(n: usize, calls: bool) -> [u8; 325]
+pub(crate) fn numbered(n: usize, calls: bool) -> [u8; 325]
     requires { ⌜ n ≤ 64 ⌝ }
 {
     let mut rows = [0u8; 325];
@@ -156,12 +156,12 @@ fn number_row(rows: &mut [u8], i: usize, calls: bool)
 }
 
 // The first table of the worked join, with these rows.
-pub fn first_hop(rows: &[u8], words: &[u8]) -> [u8; LARGEST] {
+pub(crate) fn first_hop(rows: &[u8], words: &[u8]) -> [u8; LARGEST] {
     laid(b"\x01\x01\x04\x04", b"(\x01)\x02<\x01>\x02", rows, words)
 }
 
 // The second: `[` marker 1 `a`, `{` marker 2 `b`, `}` marker 2 `c`, `]` marker 1 `d`.
-pub fn second_hop() -> [u8; LARGEST] {
+pub(crate) fn second_hop() -> [u8; LARGEST] {
     inner(
         b"\x01\x02\x05\x03",
         b"[\x00\x00\x01\x01]\x00\x00\x01\x01{\x00\x00\x02\x01}\x00\x00\x02\x01",

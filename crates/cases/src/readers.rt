@@ -5,7 +5,7 @@ ghost use Prim.Native.Nat.{_<_};
 ghost use Rattle.table.specs.Good.{first, Good};
 ghost use Rattle.table.specs.File.{rowCount};
 
-pub fn all() {
+pub(crate) fn all() {
     let file = g();
     readings(&file[..]);
 }
@@ -51,7 +51,7 @@ fn show_body(file: &[u8])
 }
 
 // The rows of a file, if it is good.
-pub fn list(file: &[u8]) {
+pub(crate) fn list(file: &[u8]) {
     match checking::check(file) {
         checking::Verdict::BadTable => {}
         checking::Verdict::Taken => show_rows(file),

@@ -7,7 +7,7 @@ use crate::tables::wide;
 use places::SIZE;
 ghost use Rattle.table.specs.Good.{first, Good};
 
-pub fn all() {
+pub(crate) fn all() {
     begins();
     sound_sessions();
     link_faults();
@@ -17,7 +17,7 @@ pub fn all() {
 }
 
 // The number for a session: 0 where it is sound for the table, 2 where it is not.
-pub fn judged(file: &[u8], session: &[u8; SIZE]) -> u64 {
+pub(crate) fn judged(file: &[u8], session: &[u8; SIZE]) -> u64 {
     match checking::check(file) {
         checking::Verdict::BadTable => 1,
         checking::Verdict::Taken => found(file, session),
@@ -39,7 +39,7 @@ fn begun(name: &[u8], file: &[u8]) {
 }
 
 // The number of starting states.
-pub fn opened(file: &[u8], session: &mut [u8; SIZE]) -> u64 {
+pub(crate) fn opened(file: &[u8], session: &mut [u8; SIZE]) -> u64 {
     match session::begin(file, session) {
         session::Opening::Taken { states } => states as u64,
         session::Opening::BadTable => 0,
@@ -70,7 +70,7 @@ fn bare(name: &[u8], links: &[u8]) {
 }
 
 // G after 10: `K` or `N` waits over the pair that the call left.
-pub fn opening() -> [u8; SIZE] {
+pub(crate) fn opening() -> [u8; SIZE] {
     let mut bytes = [0u8; SIZE];
     let session = &mut bytes[..];
     put(session, 0, b"\x01\x03");

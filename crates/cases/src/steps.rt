@@ -12,7 +12,7 @@ use crate::tables::put;
 use places::SIZE;
 ghost use Prim.Native.Nat.{_≤_};
 
-pub fn all() {
+pub(crate) fn all() {
     steps_of_g();
     refusals_of_g();
     unsound();
@@ -49,7 +49,7 @@ fn lent(
 }
 
 // Symbol after symbol, with all the room.
-pub fn message(file: &[u8], session: &mut [u8; SIZE], symbols: &[u8]) {
+pub(crate) fn message(file: &[u8], session: &mut [u8; SIZE], symbols: &[u8]) {
     let mut i = 0;
     while i < symbols.len() {
         took(file, session, symbols[i], 4);

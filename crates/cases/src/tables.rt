@@ -3,7 +3,7 @@
 ghost use Prim.Native.Nat.{_<_};
 
 // Writes bytes from a place on, as far as there is room.
-pub fn put(file: &mut [u8], at: usize, bytes: &[u8]) {
+pub(crate) fn put(file: &mut [u8], at: usize, bytes: &[u8]) {
     let mut i = 0;
     while i < bytes.len() {
         if i < file.len() && at < file.len() - i {
@@ -15,7 +15,7 @@ pub fn put(file: &mut [u8], at: usize, bytes: &[u8]) {
 
 // Table G over zeros. Call 10: 0 to 1 `OK`, 0 to 2 `ON`. Internal 1: 1 to 1 `p`, 2 to 2 `p`. Return 11: 1 to 3. Return
 // 12: 2 to 3. Starting 0, final 3, one marker, depth cap 4, waiting cap 4.
-pub fn g() -> [u8; 354] {
+pub(crate) fn g() -> [u8; 354] {
     let mut bytes = [0u8; 354];
     let file = &mut bytes[..];
     put(file, 0, b"\x01\x04\x01\x04\x04\x00\x62\x01");
@@ -45,7 +45,7 @@ pub fn g() -> [u8; 354] {
 }
 
 // G with 64 states, all of them starting.
-pub fn wide() -> [u8; 354] {
+pub(crate) fn wide() -> [u8; 354] {
     let mut bytes = g();
     let file = &mut bytes[..];
     put(file, 1, b"\x40");
@@ -54,7 +54,7 @@ pub fn wide() -> [u8; 354] {
 }
 
 // Internal 1 from 0 to finals 1, with `a`, and 2, with the part of `aab` of which `word` has start and length.
-pub fn fork(word: &[u8]) -> [u8; 319] {
+pub(crate) fn fork(word: &[u8]) -> [u8; 319] {
     let mut bytes = [0u8; 319];
     let file = &mut bytes[..];
     put(file, 0, b"\x01\x03\x00\x04\x04\x00\x3f\x01");
@@ -71,7 +71,7 @@ pub fn fork(word: &[u8]) -> [u8; 319] {
 }
 
 // Eight starting states, each with seven empty-word rows of call 10, to states 0 to 6.
-pub fn crowd() -> [u8; 748] {
+pub(crate) fn crowd() -> [u8; 748] {
     let mut bytes = [0u8; 748];
     let file = &mut bytes[..];
     put(file, 0, b"\x01\x08\x01\x04\x04\x00\xec\x02");
@@ -99,7 +99,7 @@ fn call_row(file: &mut [u8], k: usize)
 }
 
 // The same with one row more, from 0 to 7: behind the seven from 0.
-pub fn larger_crowd() -> [u8; 756] {
+pub(crate) fn larger_crowd() -> [u8; 756] {
     let few = crowd();
     let mut bytes = [0u8; 756];
     let file = &mut bytes[..];

@@ -1,41 +1,72 @@
 // The parts of a rule file, in file order: each says whether the file keeps that part's rules.
-use table::load_eight;
-use table::load_two;
+use table::CLASS_COUNT;
+use table::CLASSES_ENTRY;
+use table::CLASSES_START;
+use table::FINAL_ENTRY;
+use table::FINAL_START;
+use table::HEAD_SIZE;
+use table::ROW_SIZE;
+use table::ROWS_ENTRY;
+use table::ROWS_LENGTH_AT;
+use table::ROWS_START;
+use table::SET_SIZE;
+use table::STARTING_ENTRY;
+use table::STARTING_START;
+use table::WORDS_ENTRY;
+use table::WORDS_LENGTH_AT;
+use words::load_eight;
+use words::load_two;
 use words::together;
 use words::wide;
 ghost use mathlib.Core.Path.{_≡_};
 ghost use Prim.Native.Nat.{_+_, _^_, _≤_, _<_};
 ghost use lib.ListN.{length};
 ghost use Rattle.words.specs.Lists.{Exact};
+ghost use Rattle.meaning.specs.Parts.{rowsStart};
 ghost use Rattle.table.specs.Good.{first, Head, Entry, Contents, Classes, Sets};
+
+// What edition 1 allows at most.
+const EDITION: usize = 1;
+
+const MOST_STATES: usize = 64;
+
+const MOST_MARKERS: usize = 64;
+
+const MOST_DEPTH: usize = 32;
+
+const MOST_WAITING: usize = 512;
+
+const MOST_ROWS: usize = 256;
+
+const MOST_WORDS: usize = 4096;
 
 pub fn head(file: &[u8]) -> bool
     ensures { λ r. ⌜ Exact (Head first (now (file .entry))) r ⌝ }
 {
-    if file.len() < 8 {
+    if file.len() < HEAD_SIZE {
         return false;
     }
-    if wide(file[0]) != 1 {
+    if wide(file[0]) != EDITION {
         return false;
     }
     let states = wide(file[1]);
     if states < 1 {
         return false;
     }
-    if 64 < states {
+    if MOST_STATES < states {
         return false;
     }
-    if 64 < wide(file[2]) {
+    if MOST_MARKERS < wide(file[2]) {
         return false;
     }
     let depth = wide(file[3]);
     if depth < 1 {
         return false;
     }
-    if 32 < depth {
+    if MOST_DEPTH < depth {
         return false;
     }
-    if 512 < load_two(file, 4) {
+    if MOST_WAITING < load_two(file, 4) {
         return false;
     }
     if load_two(file, 6) != file.len() {
@@ -61,33 +92,33 @@ fn entry(file: &[u8], at: usize, start: usize, size: usize) -> bool
 pub fn contents(file: &[u8]) -> bool
     ensures { λ r. ⌜ Exact (Contents first (now (file .entry))) r ⌝ }
 {
-    if file.len() < 28 {
+    if file.len() < CLASSES_START {
         return false;
     }
-    if !entry(file, 8, 28, 256) {
+    if !entry(file, CLASSES_ENTRY, CLASSES_START, CLASS_COUNT) {
         return false;
     }
-    if !entry(file, 12, 284, 8) {
+    if !entry(file, STARTING_ENTRY, STARTING_START, SET_SIZE) {
         return false;
     }
-    if !entry(file, 16, 292, 8) {
+    if !entry(file, FINAL_ENTRY, FINAL_START, SET_SIZE) {
         return false;
     }
-    let rows = load_two(file, 22) / 8;
-    if 256 < rows {
+    let rows = load_two(file, ROWS_LENGTH_AT) / ROW_SIZE;
+    if MOST_ROWS < rows {
         return false;
     }
-    if !entry(file, 20, 300, 8 * rows) {
+    if !entry(file, ROWS_ENTRY, ROWS_START, ROW_SIZE * rows) {
         return false;
     }
-    let bytes = load_two(file, 26);
-    if 4096 < bytes {
+    let bytes = load_two(file, WORDS_LENGTH_AT);
+    if MOST_WORDS < bytes {
         return false;
     }
-    if !entry(file, 24, 300 + 8 * rows, bytes) {
+    if !entry(file, WORDS_ENTRY, ROWS_START + ROW_SIZE * rows, bytes) {
         return false;
     }
-    if 300 + 8 * rows + bytes != file.len() {
+    if ROWS_START + ROW_SIZE * rows + bytes != file.len() {
         return false;
     }
     true
@@ -95,10 +126,10 @@ pub fn contents(file: &[u8]) -> bool
 
 // No class has a bit above the lowest two exactly when all together have none.
 pub fn classes(file: &[u8]) -> bool
-    requires { ⌜ 300 ≤ length (now file) ⌝ }
+    requires { ⌜ rowsStart ≤ length (now file) ⌝ }
     ensures { λ r. ⌜ Exact (Classes (now (file .entry))) r ⌝ }
 {
-    together(&file[28..284]) < 4
+    together(&file[CLASSES_START..STARTING_START]) < 4
 }
 
 // Whether all members of a set are below `states`.
@@ -112,18 +143,18 @@ fn within(set: u64, states: usize) -> bool
 }
 
 pub fn sets(file: &[u8]) -> bool
-    requires { ⌜ 300 ≤ length (now file) ⌝ }
+    requires { ⌜ rowsStart ≤ length (now file) ⌝ }
     ensures { λ r. ⌜ Exact (Sets (now (file .entry))) r ⌝ }
 {
     let states = wide(file[1]);
-    let starting = load_eight(file, 284);
+    let starting = load_eight(file, STARTING_START);
     if starting == 0 {
         return false;
     }
     if !within(starting, states) {
         return false;
     }
-    if !within(load_eight(file, 292), states) {
+    if !within(load_eight(file, FINAL_START), states) {
         return false;
     }
     true

@@ -1,8 +1,13 @@
 // The rows of a rule file: whether each fits, and whether they rise.
-use table::load_two;
+use table::CLASSES_START;
+use table::ROW_SIZE;
+use table::ROWS_LENGTH_AT;
+use table::ROWS_START;
+use table::WORDS_LENGTH_AT;
 use table::row_word;
 use words::Order;
 use words::compare;
+use words::load_two;
 use words::wide;
 ghost use Prim.Native.Nat.{_+_};
 ghost use Rattle.words.specs.Lists.{Exact};
@@ -32,9 +37,9 @@ fn mark_fits(file: &[u8], i: usize) -> bool
     requires { ⌜ RowIn (now file) i ⌝ }
     ensures { λ r. ⌜ Exact (MarkAt (now (file .entry)) i) r ⌝ }
 {
-    let at = 300 + 8 * i;
+    let at = ROWS_START + ROW_SIZE * i;
     let symbol = wide(file[at]);
-    let class = wide(file[28 + symbol]);
+    let class = wide(file[CLASSES_START + symbol]);
     mark_suits(class, wide(file[2]), wide(file[at + 3]))
 }
 
@@ -43,7 +48,7 @@ fn row_fits(file: &[u8], i: usize) -> bool
     requires { ⌜ RowIn (now file) i ⌝ }
     ensures { λ r. ⌜ Exact (RowFits (now (file .entry)) i) r ⌝ }
 {
-    let at = 300 + 8 * i;
+    let at = ROWS_START + ROW_SIZE * i;
     if !mark_fits(file, i) {
         return false;
     }
@@ -54,7 +59,7 @@ fn row_fits(file: &[u8], i: usize) -> bool
     if states <= wide(file[at + 2]) {
         return false;
     }
-    if load_two(file, 26) < load_two(file, at + 4) + wide(file[at + 6]) {
+    if load_two(file, WORDS_LENGTH_AT) < load_two(file, at + 4) + wide(file[at + 6]) {
         return false;
     }
     if wide(file[at + 7]) != 0 {
@@ -68,7 +73,7 @@ fn row_head(file: &[u8], i: usize) -> usize
     requires { ⌜ RowIn (now file) i ⌝ }
     ensures { λ r. ⌜ Headed (rowAt (now (file .entry)) i) r ⌝ }
 {
-    let at = 300 + 8 * i;
+    let at = ROWS_START + ROW_SIZE * i;
     let c = wide(file[at]) * 256 + wide(file[at + 1]);
     (c * 256 + wide(file[at + 3])) * 256 + wide(file[at + 2])
 }
@@ -97,7 +102,7 @@ pub fn rows(file: &[u8]) -> bool
     requires { ⌜ Contents first (now file) ⌝ }
     ensures { λ r. ⌜ Exact (Rows (now (file .entry))) r ⌝ }
 {
-    let n = load_two(file, 22) / 8;
+    let n = load_two(file, ROWS_LENGTH_AT) / ROW_SIZE;
     if n == 0 {
         return true;
     }

@@ -8,7 +8,7 @@ use lib.ListN.{length, take, drop, set, length-append, length-take, length-drop,
 use lib.Seq.{ext-getD, getD-take, getD-drop, length-take-le, take-take}
 use Rattle.words.specs.Words.{Word}
 use Rattle.words.proofs.Lists.{below-or}
-use Rattle.table.specs.File.{byte}
+use Rattle.words.specs.LittleEndian.{byte}
 use Rattle.standing.specs.Numbers.{keyFrom}
 use Rattle.drafting.specs.Drafts.{slotStart, draftRoom, lengthIn, pieceIn, Filled, Written, headBytes, Holds}
 use Rattle.drafting.proofs.Written.{written-next, written-more, written-small, filled}

@@ -14,7 +14,7 @@ use Rattle.words.specs.Lists.{_among_}
 use Rattle.words.specs.Words.{Word}
 use Rattle.words.specs.Order.{Less, Rises}
 use Rattle.words.proofs.Lists.{below-or}
-use Rattle.table.specs.File.{byte}
+use Rattle.words.specs.LittleEndian.{byte}
 use Rattle.standing.specs.Sessions.{entry}
 use Rattle.standing.specs.Bytes.{pair, linkFrom, NoneBelow}
 use Rattle.drafting.specs.Drafts.{slotStart, draftRoom, lengthIn, pieceIn, draftIn, slotOf, stacked, draftsOf}

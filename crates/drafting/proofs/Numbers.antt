@@ -15,8 +15,8 @@ use Rattle.words.specs.Order.{Less}
 use Rattle.words.proofs.Lists.{getD-byte}
 use Rattle.words.proofs.Order.{first-below}
 use Rattle.words.proofs.Exact.{exact-as}
+use Rattle.words.specs.LittleEndian.{byte}
 use Rattle.meaning.specs.Trails.{Pair, Link, pairKey, linkKey}
-use Rattle.table.specs.File.{byte}
 use Rattle.standing.specs.Bytes.{pair, belowFrom, linkFrom, NoneBelow}
 use Rattle.standing.specs.Numbers.{seatFrom, footFrom, keyFrom}
 use Rattle.standing.proofs.Bytes.{none-some}

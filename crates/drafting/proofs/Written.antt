@@ -11,7 +11,7 @@ use lib.Seq.{ext-getD, getD-append-add, getD-set-same, getD-set-other, getD-take
 use lib.Seq.{take-all}
 use Rattle.words.specs.Words.{Word, Bytes}
 use Rattle.words.proofs.Lists.{below-or, byte-getD}
-use Rattle.table.specs.File.{byte}
+use Rattle.words.specs.LittleEndian.{byte}
 use Rattle.standing.specs.Numbers.{keyFrom}
 use Rattle.drafting.specs.Drafts.{slotStart, draftRoom, workSize, lengthIn, pieceIn, Filled, Written, headBytes}
 use Rattle.drafting.proofs.Numbers.{from-number}

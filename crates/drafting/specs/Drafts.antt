@@ -11,9 +11,9 @@ use lib.ListN.{length, getD, take, drop}
 use Rattle.words.specs.Lists.{_among_}
 use Rattle.words.specs.Words.{Word, Bytes, shared, common}
 use Rattle.words.specs.Order.{put}
+use Rattle.words.specs.LittleEndian.{byte, two}
 use Rattle.meaning.specs.Trails.{Pair, Link}
 use Rattle.meaning.specs.Answers.{linksCap}
-use Rattle.table.specs.File.{byte, two}
 use Rattle.standing.specs.Sessions.{Entry, entry}
 use Rattle.standing.specs.Soundly.{piecesOn}
 use Rattle.standing.specs.Bytes.{countOf, linkFrom, linkAt, NoneBelow, sessionOf}

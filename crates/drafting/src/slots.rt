@@ -2,7 +2,7 @@
 use places::links::foot_from;
 use places::links::key_from;
 use places::links::seat_from;
-use table::load_two;
+use words::load_two;
 use words::wide;
 ghost use mathlib.Core.Path.{_≡_};
 ghost use mathlib.Core.Logic.{_⊎_};

@@ -15,12 +15,13 @@ use Rattle.words.specs.Order.{sameWord}
 use Rattle.words.proofs.Lists.{empty-in, below-or}
 use Rattle.words.proofs.Common.{common-all}
 use Rattle.words.proofs.Exact.{empty-exact, exact-same, no-exact}
+use Rattle.words.specs.LittleEndian.{byte}
 use Rattle.meaning.specs.Table.{Table, edition1, Good as GoodTable}
 use Rattle.meaning.specs.Trails.{ground, Link, linkOf}
 use Rattle.meaning.specs.Answers.{Moment, accepted, finishTests, finishNumber}
 use Rattle.meaning.proofs.Tests.{absent}
 use Rattle.meaning.proofs.Finish.{differ-exact, agreeing}
-use Rattle.table.specs.File.{byte, tableOf}
+use Rattle.table.specs.File.{tableOf}
 use Rattle.table.specs.Good.{first, Good}
 use Rattle.sets.proofs.Members.{members-exact}
 use Rattle.table.proofs.Stands.{good-table}

@@ -4,8 +4,9 @@ use mathlib.Core.Bool.{Bool, true, false}
 use mathlib.Core.List.{List}
 use Prim.Native.Nat.{ℕ, _<_, _≤_}
 use Rattle.words.specs.Words.{Bytes}
+use Rattle.words.specs.LittleEndian.{byte}
 use Rattle.sets.specs.Sets.{isIn, members}
-use Rattle.table.specs.File.{byte, tableOf}
+use Rattle.table.specs.File.{tableOf}
 use Rattle.table.specs.Good.{first, Good}
 use Rattle.standing.specs.Bytes.{countOf, linkAt, pieceAt, SoundBytes}
 

@@ -12,10 +12,11 @@ use Rattle.words.specs.Words.{Word}
 use Rattle.words.specs.Order.{Less}
 use Rattle.words.proofs.Lists.{first-of}
 use Rattle.words.proofs.Order.{rises-out}
+use Rattle.words.specs.LittleEndian.{byte}
 use Rattle.meaning.specs.Table.{unused, call, return, internal, Table, edition1, Good as GoodTable}
 use Rattle.meaning.specs.Trails.{linkKey}
 use Rattle.meaning.specs.Answers.{linksCap}
-use Rattle.table.specs.File.{byte, tableOf}
+use Rattle.table.specs.File.{tableOf}
 use Rattle.table.specs.Good.{first}
 use Rattle.table.proofs.Stands.{good-table}
 use Rattle.standing.specs.Sessions.{Entry, Session}

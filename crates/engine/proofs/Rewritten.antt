@@ -8,8 +8,8 @@ use lib.ListN.{length, getD, set, take, drop, length-set, length-drop, List·get
 use lib.Seq.{length-take-le, take-all, getD-set-same, getD-set-other}
 use Rattle.words.specs.Words.{Word}
 use Rattle.words.proofs.Lists.{below-or}
+use Rattle.words.specs.LittleEndian.{byte}
 use Rattle.meaning.specs.Answers.{linksCap}
-use Rattle.table.specs.File.{byte}
 use Rattle.standing.specs.Sessions.{Entry}
 use Rattle.standing.specs.Bytes.{linkStart, lengthStart, pieceStart, pieceRoom, size, countOf, linkFrom, Kept, noEntry}
 use Rattle.standing.specs.Bytes.{linkBytes, bytesOf}

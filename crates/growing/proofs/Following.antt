@@ -9,9 +9,10 @@ use lib.Dec.{eqb}
 use lib.ListN.{length}
 use Rattle.words.specs.Lists.{each, only, upTo}
 use Rattle.words.proofs.Lists.{each-map, getD-byte}
+use Rattle.words.specs.LittleEndian.{byte}
 use Rattle.meaning.specs.Table.{Class, unused, call, return, internal, Row}
 use Rattle.meaning.specs.Trails.{Link}
-use Rattle.table.specs.File.{byte, rowCount, wordOf, rowAt, tableOf}
+use Rattle.table.specs.File.{rowCount, wordOf, rowAt, tableOf}
 use Rattle.table.specs.Calls.{FirstRow}
 use Rattle.table.proofs.Symbols.{none-before}
 use Rattle.table.proofs.Stands.{rows-of}

@@ -11,12 +11,14 @@ use lib.Seq.{ext-getD, take-at}
 use borrow.Author.Tests.{le-ltb}
 use Rattle.words.specs.Lists.{upTo}
 use Rattle.words.proofs.Lists.{length-upTo, below-or, getD-map-upTo}
+use Rattle.words.specs.LittleEndian.{byte, two, eight}
+use Rattle.meaning.specs.Parts.{rowsEntry, wordsEntry, classCount, rowSize, startingStart, finalStart, rowsStart}
 use Rattle.meaning.specs.Table.{Class, unused, call, return, internal, code, Table, Limits, edition1}
 use Rattle.meaning.specs.Table.{GoodSet, Good}
 use Rattle.meaning.specs.Runs.{said}
 use Rattle.meaning.specs.Joining.{fileSize}
 use Rattle.sets.specs.Sets.{members}
-use Rattle.table.specs.File.{byte, two, eight, rowCount, rowStart, wordsLength, wordOf, rowAt, classOf, classAt}
+use Rattle.table.specs.File.{rowCount, rowStart, wordsLength, wordOf, rowAt, classOf, classAt}
 use Rattle.table.specs.File.{tableOf}
 use Rattle.table.proofs.Marks.{class-at}
 use Rattle.joining.specs.Laid.{setOf, fileOf}
@@ -31,7 +33,7 @@ pub record Room (L : Limits) : Type 0 where
   pub depth : L .depth ≤ 255
   pub waiting : L .waiting ≤ 65535
   pub word : L .word ≤ 255
-  pub whole : 300 + 8 * L .rows + L .words ≤ 65535
+  pub whole : rowsStart + rowSize * L .rows + L .words ≤ 65535
 
 pub room1 : Room edition1
 room1 = record {
@@ -79,36 +81,40 @@ module _ {L : Limits} {T : Table} (fits : Fits L T) where
   pub whole-of : two F 6 ≡ fileSize T
   whole-of = ap (λ (l : List ℕ). two l 6) (parts T) ∙ two-is (fileSize T) small
 
-  pub rows-of : two F 22 ≡ 8 * length (T .rows)
-  rows-of = ap (λ (l : List ℕ). two l 22) (parts T) ∙ two-is (8 * length (T .rows)) (omega (arith, small))
+  pub rows-of : two F (rowsEntry + 2) ≡ rowSize * length (T .rows)
+  rows-of =
+      ap (λ (l : List ℕ). two l (rowsEntry + 2)) (parts T) ∙ two-is (rowSize * length (T .rows)) (omega (arith, small))
 
   pub count-of : rowCount F ≡ length (T .rows)
   count-of = omega (arith, rows-of)
 
-  pub words-from : two F 24 ≡ 300 + 8 * length (T .rows)
+  pub words-from : two F wordsEntry ≡ rowsStart + rowSize * length (T .rows)
   words-from =
-      ap (λ (l : List ℕ). two l 24) (parts T) ∙ two-is (300 + 8 * length (T .rows)) (omega (arith, small))
+      ap (λ (l : List ℕ). two l wordsEntry) (parts T)
+      ∙ two-is (rowsStart + rowSize * length (T .rows)) (omega (arith, small))
 
-  pub words-of : two F 26 ≡ length (said (T .rows))
-  words-of = ap (λ (l : List ℕ). two l 26) (parts T) ∙ two-is (length (said (T .rows))) (omega (arith, small))
+  pub words-of : two F (wordsEntry + 2) ≡ length (said (T .rows))
+  words-of =
+      ap (λ (l : List ℕ). two l (wordsEntry + 2)) (parts T) ∙ two-is (length (said (T .rows))) (omega (arith, small))
 
   -- classes, sets
 
   class-of : (a : ℕ) → classAt F a ≡ T .class a
-  class-of a = go (below-or a 256)
+  class-of a = go (below-or a classCount)
     where
-      go : (a < 256) ⊎ (256 ≤ a) → classAt F a ≡ T .class a
+      go : (a < classCount) ⊎ (classCount ≤ a) → classAt F a ≡ T .class a
       go (inl h) = class-at F a (code (T .class a)) h (sym (class-byte T a h)) ∙ class-code (T .class a)
-      go (inr h) = rw (le-ltb a 256 h) (sym (fits .good .symbols a h))
+      go (inr h) = rw (le-ltb a classCount h) (sym (fits .good .symbols a h))
 
   narrow : {l : List ℕ} → GoodSet (T .states) l → setOf l < 2 ^ 64
   narrow g = lt-of-lt-of-le (set-below g) (pow-mono few)
 
-  pub starting-of : eight F 284 ≡ setOf (T .starting)
-  starting-of = eight-from F (fromFinal T) 284 (setOf (T .starting)) (at-starting T) (narrow (fits .good .starting))
+  pub starting-of : eight F startingStart ≡ setOf (T .starting)
+  starting-of =
+      eight-from F (fromFinal T) startingStart (setOf (T .starting)) (at-starting T) (narrow (fits .good .starting))
 
-  pub final-of : eight F 292 ≡ setOf (T .final)
-  final-of = eight-from F (fromRows T) 292 (setOf (T .final)) (at-final T) (narrow (fits .good .final))
+  pub final-of : eight F finalStart ≡ setOf (T .final)
+  final-of = eight-from F (fromRows T) finalStart (setOf (T .final)) (at-final T) (narrow (fits .good .final))
 
   -- a row
   module _ (i : ℕ) (lt : i < length (T .rows)) where

@@ -8,6 +8,7 @@ use lib.ListN.{length}
 use Rattle.words.specs.Lists.{_among_, upTo}
 use Rattle.words.specs.Words.{Bytes}
 use Rattle.words.proofs.Lists.{each-out, below-or, bytes-nil, bytes-cons, bytes-append}
+use Rattle.meaning.specs.Parts.{classCount, setSize, rowSize, classesStart, startingStart, finalStart, rowsStart}
 use Rattle.meaning.specs.Table.{Class, unused, call, return, internal, code, Row, Table, Limits, MarkFits}
 use Rattle.meaning.specs.Runs.{said}
 use Rattle.meaning.specs.Joining.{fileSize}
@@ -31,12 +32,13 @@ then-two m n {l} h =
     (bytes-append (littleEndian 2 n) l (little-bytes 2 n) h)
 
 module _ {L : Limits} {T : Table} (fits : Fits L T) where
-  -- a symbol from 256 on is unused, and no row has it
-  symbol-byte : (r : Row) → r among T .rows → r .symbol < 256
-  symbol-byte r m = go (below-or (r .symbol) 256) (fits .good .row r m .marker)
+  -- a symbol from classCount on is unused, and no row has it
+  symbol-byte : (r : Row) → r among T .rows → r .symbol < classCount
+  symbol-byte r m = go (below-or (r .symbol) classCount) (fits .good .row r m .marker)
     where
-      go : (r .symbol < 256) ⊎ (256 ≤ r .symbol) → MarkFits (T .class (r .symbol)) (T .markers) (r .marker)
-          → r .symbol < 256
+      go : (r .symbol < classCount) ⊎ (classCount ≤ r .symbol)
+          → MarkFits (T .class (r .symbol)) (T .markers) (r .marker)
+          → r .symbol < classCount
       go (inl h) f = h
       go (inr h) f = absurd (rw (fits .good .symbols (r .symbol) h) at f)
 
@@ -64,29 +66,29 @@ module _ {L : Limits} {T : Table} (fits : Fits L T) where
   class-bytes : Bytes (classBytes T)
   unfolding classBytes
   class-bytes b m =
-      let x = Memᴰ·of-map (λ a. code (T .class a)) (upTo 256) m in
+      let x = Memᴰ·of-map (λ a. code (T .class a)) (upTo classCount) m in
       let h = code-small (T .class (x .0)) in
       omega (arith, x .2)
 
   head-bytes : Bytes (headBytes T ++ contentBytes T)
   head-bytes =
-      let n = 8 * length (T .rows) in
+      let n = rowSize * length (T .rows) in
       bytes-cons (omega arith)
       (bytes-cons (omega arith)
       (bytes-cons (omega arith)
       (bytes-cons (omega arith)
       (then-two (T .waitingCap) (fileSize T)
-      (then-two 28 256
-      (then-two 284 8
-      (then-two 292 8
-      (then-two 300 n
-      (then-two (300 + n) (length (said (T .rows))) bytes-nil)))))))))
+      (then-two classesStart classCount
+      (then-two startingStart setSize
+      (then-two finalStart setSize
+      (then-two rowsStart n
+      (then-two (rowsStart + n) (length (said (T .rows))) bytes-nil)))))))))
 
   pub file-bytes : Bytes (fileOf T)
   file-bytes =
       subst Bytes (sym (parts T))
       (bytes-append (headBytes T ++ contentBytes T) (fromClasses T) head-bytes
       (bytes-append (classBytes T) (fromStarting T) class-bytes
-      (bytes-append (setBytes (T .starting)) (fromFinal T) (little-bytes 8 (setOf (T .starting)))
-      (bytes-append (setBytes (T .final)) (fromRows T) (little-bytes 8 (setOf (T .final)))
+      (bytes-append (setBytes (T .starting)) (fromFinal T) (little-bytes setSize (setOf (T .starting)))
+      (bytes-append (setBytes (T .final)) (fromRows T) (little-bytes setSize (setOf (T .final)))
       (bytes-append (rowsBytes 0 (T .rows)) (said (T .rows)) (rows-bytes 0 (T .rows) (λ r m. m)) words-bytes)))))

@@ -6,8 +6,11 @@ use native.Mathlib.Omega.{arith}
 use lib.ListN.{length}
 use Rattle.words.proofs.Lists.{upTo-in}
 use Rattle.words.proofs.Order.{rises-out}
+use Rattle.words.specs.LittleEndian.{byte, two}
+use Rattle.meaning.specs.Parts.{classesEntry, startingEntry, finalEntry, rowsEntry, classCount, setSize, classesStart}
+use Rattle.meaning.specs.Parts.{startingStart, finalStart}
 use Rattle.meaning.specs.Table.{Class, unused, call, return, internal, code, Table, Limits, rowKey, Good as GoodTable}
-use Rattle.table.specs.File.{byte, two, rowCount, rowAt, tableOf}
+use Rattle.table.specs.File.{rowCount, rowAt, tableOf}
 use Rattle.table.specs.Good.{Edition, Entry, Head, Contents, Sets, RowFits, Rows, Good}
 use Rattle.joining.specs.Laid.{headBytes, contentBytes, fileOf}
 use Rattle.joining.proofs.Digits.{set-below, set-some}
@@ -55,12 +58,12 @@ module _ {L : Limits} {T : Table} (fits : Fits L T) where
       let w = words-of fits in
       record {
         long = omega (arith, file-length T);
-        classes = entry-at 8 28 256 (record { starts = refl; lasts = refl });
-        starting = entry-at 12 284 8 (record { starts = refl; lasts = refl });
-        final = entry-at 16 292 8 (record { starts = refl; lasts = refl });
+        classes = entry-at classesEntry classesStart classCount (record { starts = refl; lasts = refl });
+        starting = entry-at startingEntry startingStart setSize (record { starts = refl; lasts = refl });
+        final = entry-at finalEntry finalStart setSize (record { starts = refl; lasts = refl });
         rows =
             record {
-              starts = ap (λ (l : List ℕ). two l 20) (parts T);
+              starts = ap (λ (l : List ℕ). two l rowsEntry) (parts T);
               lasts = omega (arith, rows-of fits);
             };
         count = omega arith;

@@ -8,10 +8,11 @@ use lib.ListN.{length, getD, take, drop, length-append, length-map, List·getD-a
 use lib.Seq.{getD-drop, drop-drop, drop-at, split-at, length-take-le}
 use Rattle.words.specs.Lists.{upTo}
 use Rattle.words.proofs.Lists.{length-upTo, each-append, getD-map-upTo}
+use Rattle.words.specs.LittleEndian.{byte, eight}
+use Rattle.meaning.specs.Parts.{classCount, setSize, rowSize, classesStart, startingStart, finalStart, rowsStart}
 use Rattle.meaning.specs.Table.{code, Row, Table}
 use Rattle.meaning.specs.Runs.{said}
 use Rattle.meaning.specs.Joining.{fileSize}
-use Rattle.table.specs.File.{byte, eight}
 use Rattle.joining.specs.Laid.{littleEndian, headBytes, contentBytes, classBytes, setBytes, rowBytes, rowsBytes}
 use Rattle.joining.specs.Laid.{fileOf}
 use Rattle.joining.proofs.Digits.{little-value}
@@ -49,7 +50,7 @@ rows-append s (r ∷ l) m =
     ap (λ (x : List ℕ). rowBytes s r ++ x)
     (rw e at (rows-append (s + length (r .word)) l m))
 
-pub rows-length : (s : ℕ) (l : List Row) → length (rowsBytes s l) ≡ 8 * length l
+pub rows-length : (s : ℕ) (l : List Row) → length (rowsBytes s l) ≡ rowSize * length l
 rows-length s [] = refl
 rows-length s (r ∷ l) = omega (arith, rows-length (s + length (r .word)) l)
 
@@ -75,36 +76,36 @@ module _ (T : Table) where
   unfolding fileOf
   parts = simp append-assoc
 
-  classes-length : length (classBytes T) ≡ 256
+  classes-length : length (classBytes T) ≡ classCount
   unfolding classBytes
-  classes-length = length-map (upTo 256) (λ a. code (T .class a)) ∙ length-upTo 256
+  classes-length = length-map (upTo classCount) (λ a. code (T .class a)) ∙ length-upTo classCount
 
-  pub at-classes : drop 28 (fileOf T) ≡ fromClasses
-  at-classes = ap (λ (l : List ℕ). drop 28 l) parts
+  pub at-classes : drop classesStart (fileOf T) ≡ fromClasses
+  at-classes = ap (λ (l : List ℕ). drop classesStart l) parts
 
-  pub class-byte : (a : ℕ) → a < 256 → byte (fileOf T) (28 + a) ≡ code (T .class a)
+  pub class-byte : (a : ℕ) → a < classCount → byte (fileOf T) (classesStart + a) ≡ code (T .class a)
   unfolding classBytes
   class-byte a lt =
-      byte-from (fileOf T) fromClasses 28 a (28 + a) at-classes refl
+      byte-from (fileOf T) fromClasses classesStart a (classesStart + a) at-classes refl
       ∙ List·getD-append (classBytes T) fromStarting 0 a (omega (arith, classes-length))
-      ∙ getD-map-upTo (λ a. code (T .class a)) 256 a 0 lt
+      ∙ getD-map-upTo (λ a. code (T .class a)) classCount a 0 lt
 
-  pub at-starting : drop 284 (fileOf T) ≡ fromStarting
+  pub at-starting : drop startingStart (fileOf T) ≡ fromStarting
   at-starting =
-      sym (drop-drop 256 28 (fileOf T)) ∙ ap (λ (l : List ℕ). drop 256 l) at-classes
-      ∙ drop-at (classBytes T) fromStarting 256 classes-length
+      sym (drop-drop classCount classesStart (fileOf T)) ∙ ap (λ (l : List ℕ). drop classCount l) at-classes
+      ∙ drop-at (classBytes T) fromStarting classCount classes-length
 
-  pub at-final : drop 292 (fileOf T) ≡ fromFinal
-  at-final = sym (drop-drop 8 284 (fileOf T)) ∙ ap (λ (l : List ℕ). drop 8 l) at-starting
+  pub at-final : drop finalStart (fileOf T) ≡ fromFinal
+  at-final = sym (drop-drop setSize startingStart (fileOf T)) ∙ ap (λ (l : List ℕ). drop setSize l) at-starting
 
-  pub at-rows : drop 300 (fileOf T) ≡ fromRows
-  at-rows = sym (drop-drop 8 292 (fileOf T)) ∙ ap (λ (l : List ℕ). drop 8 l) at-final
+  pub at-rows : drop rowsStart (fileOf T) ≡ fromRows
+  at-rows = sym (drop-drop setSize finalStart (fileOf T)) ∙ ap (λ (l : List ℕ). drop setSize l) at-final
 
-  pub at-words : drop (300 + 8 * length (T .rows)) (fileOf T) ≡ said (T .rows)
+  pub at-words : drop (rowsStart + rowSize * length (T .rows)) (fileOf T) ≡ said (T .rows)
   at-words =
-      sym (drop-drop (8 * length (T .rows)) 300 (fileOf T))
-      ∙ ap (λ (l : List ℕ). drop (8 * length (T .rows)) l) at-rows
-      ∙ drop-at (rowsBytes 0 (T .rows)) (said (T .rows)) (8 * length (T .rows)) (rows-length 0 (T .rows))
+      sym (drop-drop (rowSize * length (T .rows)) rowsStart (fileOf T))
+      ∙ ap (λ (l : List ℕ). drop (rowSize * length (T .rows)) l) at-rows
+      ∙ drop-at (rowsBytes 0 (T .rows)) (said (T .rows)) (rowSize * length (T .rows)) (rows-length 0 (T .rows))
 
   pub file-length : length (fileOf T) ≡ fileSize T
   file-length =
@@ -126,7 +127,7 @@ module _ (T : Table) where
     split : T .rows ≡ take i (T .rows) ++ rowOf i ∷ drop (suc i) (T .rows)
     split = split-at (T .rows) i noRow lt
 
-    before : length (rowsBytes 0 (take i (T .rows))) ≡ 8 * i
+    before : length (rowsBytes 0 (take i (T .rows))) ≡ rowSize * i
     before = omega (arith, rows-length 0 (take i (T .rows)), length-take-le i (T .rows) (omega arith))
 
     split-rows : fromRows ≡ rowsBytes 0 (take i (T .rows)) ++ fromRow i
@@ -135,17 +136,18 @@ module _ (T : Table) where
         ap (λ (l : List ℕ). l ++ said (T .rows)) e
         ∙ append-assoc (rowsBytes 0 (take i (T .rows))) _ (said (T .rows))
 
-    pub at-row : drop (300 + 8 * i) (fileOf T) ≡ fromRow i
+    pub at-row : drop (rowsStart + rowSize * i) (fileOf T) ≡ fromRow i
     at-row =
-        sym (drop-drop (8 * i) 300 (fileOf T))
-        ∙ ap (λ (l : List ℕ). drop (8 * i) l) (at-rows ∙ split-rows)
-        ∙ drop-at (rowsBytes 0 (take i (T .rows))) (fromRow i) (8 * i) before
+        sym (drop-drop (rowSize * i) rowsStart (fileOf T))
+        ∙ ap (λ (l : List ℕ). drop (rowSize * i) l) (at-rows ∙ split-rows)
+        ∙ drop-at (rowsBytes 0 (take i (T .rows))) (fromRow i) (rowSize * i) before
 
     pub split-words : said (T .rows) ≡ said (take i (T .rows)) ++ said (rowOf i ∷ drop (suc i) (T .rows))
     split-words = ap said split ∙ each-append (λ r. r .word) (take i (T .rows)) (rowOf i ∷ drop (suc i) (T .rows))
 
-    pub at-word : drop (300 + 8 * length (T .rows) + wordStart i) (fileOf T) ≡ said (rowOf i ∷ drop (suc i) (T .rows))
+    pub at-word : drop (rowsStart + rowSize * length (T .rows) + wordStart i) (fileOf T)
+        ≡ said (rowOf i ∷ drop (suc i) (T .rows))
     at-word =
-        sym (drop-drop (wordStart i) (300 + 8 * length (T .rows)) (fileOf T))
+        sym (drop-drop (wordStart i) (rowsStart + rowSize * length (T .rows)) (fileOf T))
         ∙ ap (λ (l : List ℕ). drop (wordStart i) l) (at-words ∙ split-words)
         ∙ drop-at (said (take i (T .rows))) (said (rowOf i ∷ drop (suc i) (T .rows))) (wordStart i) refl

@@ -3,6 +3,7 @@ use mathlib.Core.List.{List, [], _∷_, _++_, map}
 use Prim.Native.Nat.{ℕ, zero, suc, _+_, _*_, _/_, _%_, _^_}
 use lib.ListN.{length}
 use Rattle.words.specs.Lists.{upTo}
+use Rattle.meaning.specs.Parts.{classCount, setSize, rowSize, classesStart, startingStart, finalStart, rowsStart}
 use Rattle.meaning.specs.Table.{code, Row, Table}
 use Rattle.meaning.specs.Runs.{said}
 use Rattle.meaning.specs.Joining.{fileSize}
@@ -21,19 +22,19 @@ headBytes T =
 abbrev pub entryBytes : ℕ → ℕ → List ℕ
 entryBytes start size = littleEndian 2 start ++ littleEndian 2 size
 
--- "Bodies stand in this order from byte 28 with no gap and fill the file": 28 + 256 = 284, + 8 = 292, + 8 = 300
+-- "Bodies stand in this order from byte 28 with no gap and fill the file"
 abbrev pub contentBytes : Table → List ℕ
 contentBytes T =
-    let n = 8 * length (T .rows) in
-    entryBytes 28 256
-    ++ entryBytes 284 8
-    ++ entryBytes 292 8
-    ++ entryBytes 300 n
-    ++ entryBytes (300 + n) (length (said (T .rows)))
+    let n = rowSize * length (T .rows) in
+    entryBytes classesStart classCount
+    ++ entryBytes startingStart setSize
+    ++ entryBytes finalStart setSize
+    ++ entryBytes rowsStart n
+    ++ entryBytes (rowsStart + n) (length (said (T .rows)))
 
 -- "classes (256 bytes, each 0 to 3)"
 unfoldable pub classBytes : Table → List ℕ
-classBytes T = map (λ a. code (T .class a)) (upTo 256)
+classBytes T = map (λ a. code (T .class a)) (upTo classCount)
 
 -- "Bit i of the number stands for state i": the number of a set
 abbrev pub setOf : List ℕ → ℕ
@@ -42,7 +43,7 @@ setOf (q ∷ l) = 2 ^ q + setOf l
 
 -- "A set is one 64-bit number": its bytes
 abbrev pub setBytes : List ℕ → List ℕ
-setBytes l = littleEndian 8 (setOf l)
+setBytes l = littleEndian setSize (setOf l)
 
 -- "A row is symbol, from, to, marker (one byte each), word start (2), word length (1), zero (1)"
 abbrev pub rowBytes : ℕ → Row → List ℕ

@@ -9,9 +9,11 @@ use Rattle.words.specs.Lists.{upTo}
 use Rattle.words.specs.Calls.{Room, Appended}
 use Rattle.words.proofs.Lists.{length-upTo, getD-map-upTo}
 use Rattle.words.proofs.Puts.{appended-whole}
+use Rattle.words.specs.LittleEndian.{byte}
+use Rattle.meaning.specs.Parts.{classCount, rowSize, classesStart, rowsStart}
 use Rattle.meaning.specs.Table.{Class, code, Row, Table}
 use Rattle.meaning.specs.Runs.{said}
-use Rattle.table.specs.File.{byte, classOf, tableOf}
+use Rattle.table.specs.File.{classOf, tableOf}
 use Rattle.table.specs.Good.{first as edition, Good}
 use Rattle.table.proofs.Marks.{class-at}
 use Rattle.joining.specs.Laid.{headBytes, contentBytes, classBytes, setBytes, rowsBytes, fileOf}
@@ -36,24 +38,24 @@ code-class (suc (suc (suc zero))) h = refl
 code-class (suc (suc (suc (suc k)))) h = absurd (omega arith)
 
 abbrev classPart : List ℕ → List ℕ
-classPart file = take 256 (drop 28 file)
+classPart file = take classCount (drop classesStart file)
 
 module _ (file : List ℕ) (g : Good edition file) where
-  part-long : length (classPart file) ≡ 256
+  part-long : length (classPart file) ≡ classCount
   part-long = simp (length-take, length-drop) (omega (arith, g .contents .fill))
 
-  class-here : (a : ℕ) → a < 256 → byte file (28 + a) ≡ code (tableOf file .class a)
+  class-here : (a : ℕ) → a < classCount → byte file (classesStart + a) ≡ code (tableOf file .class a)
   unfolding tableOf
   class-here a lt =
-      let k = byte file (28 + a) in
+      let k = byte file (classesStart + a) in
       sym (ap code (class-at file a k lt refl) ∙ code-class k (g .classes .each a lt))
 
   class-part : (T : Table) → T .class ≡ tableOf file .class → classPart file ≡ classBytes T
   unfolding classBytes
   class-part T e =
-      listed (classPart file) (λ a. code (T .class a)) 256 part-long
+      listed (classPart file) (λ a. code (T .class a)) classCount part-long
       (λ a lt.
-      getD-take 256 (drop 28 file) a 0 lt ∙ getD-drop 28 file a 0 ∙ class-here a lt
+      getD-take classCount (drop classesStart file) a 0 lt ∙ getD-drop classesStart file a 0 ∙ class-here a lt
       ∙ ap (λ (k : ℕ → Class). code (k a)) (sym e))
 
   pub depth-small : tableOf file .depthCap ≤ 32
@@ -77,15 +79,15 @@ module _ {a b : List ℕ} {sizes : Sizes} {arena starts order out : List ℕ}
   -- all before the rows
   abbrev pub front : List ℕ
   front =
-      headOf A B (sizes .markers) (300 + 8 * sizes .rows + sizes .words)
-      ++ entriesBytes (8 * sizes .rows) (sizes .words)
+      headOf A B (sizes .markers) (rowsStart + rowSize * sizes .rows + sizes .words)
+      ++ entriesBytes (rowSize * sizes .rows) (sizes .words)
       ++ classPart a
       ++ setsBytes A B
 
-  front-long : length front ≡ 300
+  front-long : length front ≡ rowsStart
   front-long = simp length-append (omega (arith, part-long a (l .tables .first)))
 
-  rows-long : length (rowsBytes 0 rows) ≡ 8 * sizes .rows
+  rows-long : length (rowsBytes 0 rows) ≡ rowSize * sizes .rows
   rows-long = omega (arith, rows-length 0 rows, rows-count arena starts order (sizes .rows))
 
   pub rows-fit : {r : ℕ} {out′ : List ℕ} → Appended out 0 front r out′ → Room out′ r (rowsBytes 0 rows)
@@ -114,8 +116,8 @@ module _ {a b : List ℕ} {sizes : Sizes} {arena starts order out : List ℕ}
       let w = l .words in
       let k = class-part a (l .tables .first) J refl in
       (λ i.
-      headOf A B (sizes .markers) (300 + 8 * n i + w i)
-      ++ entriesBytes (8 * n i) (w i)
+      headOf A B (sizes .markers) (rowsStart + rowSize * n i + w i)
+      ++ entriesBytes (rowSize * n i) (w i)
       ++ k i
       ++ setsBytes A B
       ++ rowsBytes 0 rows

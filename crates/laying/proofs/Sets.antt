@@ -10,11 +10,13 @@ use lib.ListN.{drop}
 use Rattle.words.specs.Lists.{_among_}
 use Rattle.words.specs.Order.{Rises}
 use Rattle.words.proofs.Order.{first-less}
+use Rattle.words.specs.LittleEndian.{byte, eight}
+use Rattle.meaning.specs.Parts.{finalStart}
 use Rattle.meaning.specs.Table.{GoodSet}
 use Rattle.meaning.specs.Joining.{pair, pairsOf}
 use Rattle.sets.specs.Sets.{members}
 use Rattle.sets.proofs.Members.{none, members-rise, members-below, members-same}
-use Rattle.table.specs.File.{byte, eight, tableOf}
+use Rattle.table.specs.File.{tableOf}
 use Rattle.table.specs.Good.{first as edition, Good}
 use Rattle.table.proofs.Stands.{starting-of}
 use Rattle.joining.specs.Laid.{setOf}
@@ -126,8 +128,8 @@ final-set : (file : List ℕ) → Good edition file → GoodSet (tableOf file .s
 unfolding tableOf
 final-set file g =
     record {
-      rise = members-rise (eight file 292);
-      below = members-below (byte file 1) (eight file 292) (g .sets .final);
+      rise = members-rise (eight file finalStart);
+      below = members-below (byte file 1) (eight file finalStart) (g .sets .final);
     }
 
 some-state : (file : List ℕ) → Good edition file → 1 ≤ tableOf file .states

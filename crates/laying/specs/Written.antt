@@ -5,6 +5,7 @@ use mathlib.Core.List.{List, _∷_, _++_, map}
 use Prim.Native.Nat.{ℕ, _+_, _*_, _<_, _≤_}
 use lib.ListN.{length, getD, drop}
 use Rattle.words.specs.Words.{Word}
+use Rattle.meaning.specs.Parts.{classCount, setSize, rowSize, classesStart, startingStart, finalStart, rowsStart}
 use Rattle.meaning.specs.Table.{Row, Table, GoodSet}
 use Rattle.meaning.specs.Runs.{said}
 use Rattle.meaning.specs.Joining.{pairsOf}
@@ -51,7 +52,11 @@ headOf A B markers size =
 -- "five entries": all starts follow from how long the rows and the words are
 abbrev pub entriesBytes : ℕ → ℕ → List ℕ
 entriesBytes rows words =
-    entryBytes 28 256 ++ entryBytes 284 8 ++ entryBytes 292 8 ++ entryBytes 300 rows ++ entryBytes (300 + rows) words
+    entryBytes classesStart classCount
+    ++ entryBytes startingStart setSize
+    ++ entryBytes finalStart setSize
+    ++ entryBytes rowsStart rows
+    ++ entryBytes (rowsStart + rows) words
 
 -- the starting and the final set
 abbrev pub setsBytes : Table → Table → List ℕ
@@ -88,4 +93,4 @@ pub record Laying (one two : List ℕ) (sizes : Sizes) (arena starts order out :
   pub markers : sizes .markers ≤ 255
   pub keys : Keys arena starts order (sizes .rows)
   pub words : sizes .words ≡ length (said (rowsIn arena starts order (sizes .rows)))
-  pub room : 300 + 8 * sizes .rows + sizes .words ≤ length out
+  pub room : rowsStart + rowSize * sizes .rows + sizes .words ≤ length out

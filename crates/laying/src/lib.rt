@@ -1,6 +1,13 @@
 // The file of the joined table, part after part. Each function puts its part from a place on, where there is room for
 // it, and answers the place after it.
 use shelf::ROOM;
+use table::CLASS_COUNT;
+use table::CLASSES_START;
+use table::FINAL_START;
+use table::ROW_SIZE;
+use table::ROWS_START;
+use table::SET_SIZE;
+use table::STARTING_START;
 use words::put_byte;
 use words::put_bytes;
 ghost use mathlib.Core.Path.{_≡_};
@@ -8,6 +15,7 @@ ghost use mathlib.Core.List.{[], _∷_};
 ghost use Prim.Native.Nat.{_≤_};
 ghost use lib.ListN.{length};
 ghost use Rattle.words.specs.Calls.{Room, Appended};
+ghost use Rattle.meaning.specs.Parts.{headSize};
 ghost use Rattle.meaning.specs.Runs.{said};
 ghost use Rattle.meaning.specs.Joining.{pairsOf};
 ghost use Rattle.sets.specs.Sets.{members};
@@ -71,11 +79,11 @@ fn put_entries(out: &mut [u8], at: usize, rows: usize, words: usize) -> usize
     requires { ⌜ (Room (now out) at (entriesBytes rows words)) × (rows ≤ 65535) ⌝ }
     ensures { λ r. ⌜ Appended (now (out .entry)) at (entriesBytes rows words) r (now (out .exit)) ⌝ }
 {
-    let second = put_entry(out, at, 28, 256);
-    let third = put_entry(out, second, 284, 8);
-    let fourth = put_entry(out, third, 292, 8);
-    let fifth = put_entry(out, fourth, 300, rows);
-    put_entry(out, fifth, 300 + rows, words)
+    let second = put_entry(out, at, CLASSES_START, CLASS_COUNT);
+    let third = put_entry(out, second, STARTING_START, SET_SIZE);
+    let fourth = put_entry(out, third, FINAL_START, SET_SIZE);
+    let fifth = put_entry(out, fourth, ROWS_START, rows);
+    put_entry(out, fifth, ROWS_START + rows, words)
 }
 
 // A row by its key, and where its word starts. A length is below 256, so that its second byte is the zero behind it.
@@ -169,7 +177,7 @@ fn put_sets(first: &[u8], second: &[u8], out: &mut [u8], at: usize) -> usize
 
 // The first eight bytes.
 fn put_head(first: &[u8], second: &[u8], out: &mut [u8], markers: usize, size: usize) -> usize
-    requires { ⌜ (Pair (now first) (now second)) × (8 ≤ length (now out)) × (markers ≤ 255) ⌝ }
+    requires { ⌜ (Pair (now first) (now second)) × (headSize ≤ length (now out)) × (markers ≤ 255) ⌝ }
     ensures { λ r. ⌜ Appended (now (out .entry)) 0
         (headOf (tableOf (now (first .entry))) (tableOf (now (second .entry))) markers size) r (now (out .exit)) ⌝ }
 {
@@ -196,10 +204,16 @@ pub fn write(
         (pairedFile (now (first .entry)) (now (second .entry)) sizes
         (now (arena .entry)) (now (starts .entry)) (now (order .entry))) r (now (out .exit)) ⌝ }
 {
-    let long = 8 * sizes.rows;
-    let contents = put_head(first, second, out, sizes.markers, 300 + long + sizes.words);
+    let long = ROW_SIZE * sizes.rows;
+    let contents = put_head(
+        first,
+        second,
+        out,
+        sizes.markers,
+        ROWS_START + long + sizes.words,
+    );
     let classes = put_entries(out, contents, long, sizes.words);
-    let starting = put_bytes(out, classes, &first[28..284]);
+    let starting = put_bytes(out, classes, &first[CLASSES_START..STARTING_START]);
     let rows = put_sets(first, second, out, starting);
     let words = put_rows(out, rows, sizes.rows, arena, starts, order);
     put_words(out, words, sizes.rows, arena, starts, order)

@@ -9,6 +9,7 @@ use Rattle.words.specs.Words.{Word}
 use Rattle.words.specs.Order.{arranged, rank}
 use Rattle.meaning.specs.Table.{Class, unused, call, return, internal, is, Row, Table, rowKey, Limits}
 use Rattle.meaning.specs.Runs.{Config, config, shifted, said, Allowed}
+use Rattle.meaning.specs.Parts.{rowsStart, rowSize}
 use Rattle.meaning.specs.Answers.{first}
 use Rattle.meaning.specs.Nesting.{nests}
 
@@ -121,7 +122,7 @@ joined A B =
 
 -- the length of a table's file: 300 bytes, 8 for each row, and the words: "laid in row order, none shared"
 abbrev pub fileSize : Table → ℕ
-fileSize T = 300 + 8 * length (T .rows) + length (said (T .rows))
+fileSize T = rowsStart + rowSize * length (T .rows) + length (said (T .rows))
 
 -- "a word of the first is over 16 bytes"; "a joined word over 255 bytes"
 abbrev pub longWord : ℕ → Table → Bool

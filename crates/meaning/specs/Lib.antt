@@ -4,6 +4,7 @@ pub mod Runs
 pub mod Trails
 pub mod Living
 pub mod Answers
+pub mod Parts
 pub mod Nesting
 pub mod Joining
 pub mod Sentences

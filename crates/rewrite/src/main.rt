@@ -34,7 +34,7 @@ fn main() {
         no_table();
         return;
     }
-    let length = table::load_two(&head[..], 0);
+    let length = words::load_two(&head[..], 0);
     if LARGEST < length {
         no_table();
         return;

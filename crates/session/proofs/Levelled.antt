@@ -9,8 +9,9 @@ use lib.ListN.{length, replicate, getD, set, length-set, length-replicate}
 use lib.Seq.{getD-set-same, getD-set-other}
 use Rattle.words.specs.Words.{Bytes}
 use Rattle.words.proofs.Lists.{below-or, getD-byte}
+use Rattle.words.specs.LittleEndian.{byte}
 use Rattle.meaning.specs.Table.{Table}
-use Rattle.table.specs.File.{byte, tableOf}
+use Rattle.table.specs.File.{tableOf}
 use Rattle.table.specs.Good.{first, Good}
 use Rattle.standing.specs.Bytes.{linkStart, countOf, linkFrom, linkAt}
 use Rattle.standing.specs.Numbers.{Lent, seatFrom, footFrom, seatAt, footAt, keyAt, Links, startOf, levelOf}

@@ -3,8 +3,8 @@ use places::SIZE;
 use words::wide;
 ghost use mathlib.Core.Path.{_≡_};
 ghost use Prim.Native.Nat.{_<_, _≤_};
+ghost use Rattle.words.specs.LittleEndian.{byte};
 ghost use Rattle.meaning.specs.Table.{Table};
-ghost use Rattle.table.specs.File.{byte};
 ghost use Rattle.standing.specs.Bytes.{countOf};
 ghost use Rattle.standing.specs.Numbers.{Links, startOf, Levelled};
 

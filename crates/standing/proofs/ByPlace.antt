@@ -13,10 +13,10 @@ use Rattle.words.proofs.Lists.{upTo-in, upTo-out, below-or, getD-byte, byte-get
 use Rattle.words.proofs.Exact.{no-exact}
 use Rattle.words.proofs.Common.{begins, begins-head, begins-not}
 use Rattle.words.proofs.Order.{rises-in, rises-out}
+use Rattle.words.specs.LittleEndian.{byte}
 use Rattle.meaning.specs.Table.{Table}
 use Rattle.meaning.specs.Trails.{ground, Link, on, linkOf, linkKey}
 use Rattle.meaning.specs.Answers.{linksCap}
-use Rattle.table.specs.File.{byte}
 use Rattle.standing.specs.Sessions.{Entry, entry, Session, Has, AllBegin, Ranges, Lies, Apart, RisesByLink, Sound}
 use Rattle.standing.specs.Soundly.{longest}
 use Rattle.standing.specs.Bytes.{pieceStart, size, countOf, lengthAt, linkAt, pieceAt, entryAt, sessionOf, Unused}

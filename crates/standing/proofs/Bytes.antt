@@ -14,9 +14,9 @@ use lib.Seq.{ext-getD, getD-take, getD-drop, length-take-le}
 use Rattle.words.specs.Lists.{_among_, upTo}
 use Rattle.words.specs.Words.{Word}
 use Rattle.words.proofs.Lists.{upTo-in, length-upTo, below-or, getD-byte}
+use Rattle.words.specs.LittleEndian.{byte}
 use Rattle.meaning.specs.Trails.{Pair, Link}
 use Rattle.meaning.specs.Answers.{linksCap}
-use Rattle.table.specs.File.{byte}
 use Rattle.standing.specs.Sessions.{Entry, Session}
 use Rattle.standing.specs.Bytes.{linkStart, lengthStart, pieceStart, pieceRoom, size, countOf, lengthAt, belowAt}
 use Rattle.standing.specs.Bytes.{linkAt, pieceAt, entryAt, sessionOf, Kept}

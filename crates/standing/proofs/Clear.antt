@@ -8,7 +8,7 @@ use Rattle.words.specs.Lists.{Exact}
 use Rattle.words.specs.Together.{AllZero}
 use Rattle.words.proofs.Exact.{exact-as}
 use Rattle.words.proofs.Cleared.{zero-part}
-use Rattle.table.specs.File.{byte}
+use Rattle.words.specs.LittleEndian.{byte}
 use Rattle.standing.specs.Bytes.{lengthStart, pieceStart, size, countOf, Unused}
 use Rattle.standing.specs.Numbers.{linksEnd, lengthsEnd, pieceEnd, piecesEnd, between, Clear, ClearBehind}
 

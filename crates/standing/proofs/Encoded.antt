@@ -15,9 +15,9 @@ use lib.Seq.{ext-getD, getD-take, getD-drop, length-take-le}
 use Rattle.words.specs.Lists.{_among_, upTo}
 use Rattle.words.specs.Words.{Word, Bytes}
 use Rattle.words.proofs.Lists.{length-upTo, below-or, getD-among, getD-byte, bytes-nil, bytes-cons, getD-map-upTo}
+use Rattle.words.specs.LittleEndian.{byte}
 use Rattle.meaning.specs.Trails.{Pair}
 use Rattle.meaning.specs.Answers.{linksCap}
-use Rattle.table.specs.File.{byte}
 use Rattle.standing.specs.Sessions.{Entry, Session}
 use Rattle.standing.specs.Bytes.{linkStart, lengthStart, pieceStart, pieceRoom, size, countOf, lengthAt, linkAt}
 use Rattle.standing.specs.Bytes.{pieceAt, entryAt, sessionOf, Kept, noEntry, entryOf, belowAt, belowBytes}

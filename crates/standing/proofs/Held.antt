@@ -15,8 +15,8 @@ use lib.Seq.{ext-getD, getD-drop, sets-eq, paste}
 use Rattle.words.specs.Words.{Word}
 use Rattle.words.proofs.Lists.{below-or}
 use Rattle.words.proofs.Pasted.{Pasted, pasted}
+use Rattle.words.specs.LittleEndian.{byte}
 use Rattle.meaning.specs.Answers.{linksCap}
-use Rattle.table.specs.File.{byte}
 use Rattle.standing.specs.Sessions.{Session}
 use Rattle.standing.specs.Bytes.{linkStart, lengthStart, pieceStart, pieceRoom, size, countOf, lengthAt, Kept}
 use Rattle.standing.specs.Bytes.{belowFrom, linkFrom, NoneBelow, noEntry, entryOf, belowBytes, linkBytes}

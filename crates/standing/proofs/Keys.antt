@@ -9,8 +9,8 @@ use Rattle.words.specs.Words.{Bytes}
 use Rattle.words.specs.Order.{Less}
 use Rattle.words.proofs.Lists.{getD-byte}
 use Rattle.words.proofs.Order.{first-below}
+use Rattle.words.specs.LittleEndian.{byte}
 use Rattle.meaning.specs.Trails.{pairKey, linkKey}
-use Rattle.table.specs.File.{byte}
 use Rattle.standing.specs.Bytes.{linkStart, belowAt, linkAt, NoneBelow}
 use Rattle.standing.specs.Numbers.{keyAt}
 use Rattle.standing.proofs.Feet.{some-below, none-below}

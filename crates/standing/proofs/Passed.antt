@@ -7,8 +7,8 @@ use native.Mathlib.Omega.{arith}
 use borrow.Author.Count.{below-more}
 use borrow.Author.Tests.{eq-eqb, ne-eqb}
 use Rattle.words.proofs.Lists.{below-or}
+use Rattle.words.specs.LittleEndian.{byte}
 use Rattle.meaning.specs.Table.{Table}
-use Rattle.table.specs.File.{byte}
 use Rattle.standing.specs.Bytes.{pieceStart, countOf, lengthAt}
 use Rattle.standing.specs.Numbers.{footAt, keyAt, headAt, LinkFits, Links, Agrees, Common}
 

@@ -9,10 +9,10 @@ use lib.Dec.{eqb, ltb}
 use lib.ListN.{length, getD, take, drop}
 use Rattle.words.specs.Lists.{upTo}
 use Rattle.words.specs.Words.{Word, Bytes}
+use Rattle.words.specs.LittleEndian.{byte, two}
 use Rattle.meaning.specs.Table.{Table}
 use Rattle.meaning.specs.Trails.{Pair, Link}
 use Rattle.meaning.specs.Answers.{linksCap}
-use Rattle.table.specs.File.{byte, two}
 use Rattle.standing.specs.Sessions.{Entry, entry, Session, Sound}
 
 -- where the five bytes of a link stand: behind depth and count

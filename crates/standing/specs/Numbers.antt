@@ -7,10 +7,10 @@ use Prim.Native.Nat.{ℕ, _+_, _-_, _*_, _/_, _<_, _≤_}
 use lib.Dec.{eqb}
 use lib.ListN.{length, getD, take, drop}
 use Rattle.words.specs.Words.{Word, Bytes}
+use Rattle.words.specs.LittleEndian.{byte}
 use Rattle.meaning.specs.Table.{Table}
 use Rattle.meaning.specs.Trails.{Link}
 use Rattle.meaning.specs.Answers.{linksCap}
-use Rattle.table.specs.File.{byte}
 use Rattle.standing.specs.Sessions.{Ranges, standsOn}
 use Rattle.standing.specs.Soundly.{Load, most, loads, longest}
 use Rattle.standing.specs.Bytes.{linkStart, lengthStart, pieceStart, pieceRoom, size, countOf, lengthAt}

@@ -10,14 +10,17 @@ use lib.Dec.{eqb, leb}
 use borrow.Author.Tests.{ne-eqb, lt-ltb, leb-true, le-leb}
 use Rattle.words.specs.Lists.{Exact}
 use Rattle.words.proofs.Exact.{no-exact, eqb-exact}
+use Rattle.words.specs.LittleEndian.{byte}
+use Rattle.meaning.specs.Parts.{classCount, classesStart}
 use Rattle.meaning.specs.Table.{unused, call, return, internal, MarkFits}
-use Rattle.table.specs.File.{byte, classOf, classAt, rowStart, rowAt}
+use Rattle.table.specs.File.{classOf, classAt, rowStart, rowAt}
 
 -- the marker that each class asks for
 
 -- the class of a symbol, which is a byte
-pub class-at : (file : List ℕ) (a k : ℕ) → a < 256 → k ≡ byte file (28 + a) → classAt file a ≡ classOf k
-class-at file a k h e = rw (lt-ltb a 256 h, e)
+pub class-at : (file : List ℕ) (a k : ℕ) → a < classCount → k ≡ byte file (classesStart + a)
+    → classAt file a ≡ classOf k
+class-at file a k h e = rw (lt-ltb a classCount h, e)
 
 pub class-unused : {k : ℕ} → k ≡ 0 → classOf k ≡ unused
 class-unused {k} e = rw e
@@ -55,8 +58,8 @@ mark-some k n m z h f = (
 )
 
 -- the same of the row of a file, whose symbol is a byte
-pub mark-at : (file : List ℕ) (i k n m : ℕ) {b : Bool} → byte file (rowStart i) < 256
-    → k ≡ byte file (28 + byte file (rowStart i)) → n ≡ byte file 2 → m ≡ byte file (rowStart i + 3)
+pub mark-at : (file : List ℕ) (i k n m : ℕ) {b : Bool} → byte file (rowStart i) < classCount
+    → k ≡ byte file (classesStart + byte file (rowStart i)) → n ≡ byte file 2 → m ≡ byte file (rowStart i + 3)
     → Exact (MarkFits (classOf k) n m) b
     → Exact (MarkFits (classAt file (rowAt file i .symbol)) (byte file 2) (rowAt file i .marker)) b
-mark-at file i k n m h d e f x = rw (lt-ltb (byte file (rowStart i)) 256 h, ← d, ← e, ← f) x
+mark-at file i k n m h d e f x = rw (lt-ltb (byte file (rowStart i)) classCount h, ← d, ← e, ← f) x

@@ -15,9 +15,11 @@ use Rattle.words.specs.Words.{Bytes}
 use Rattle.words.specs.Order.{Less, Rises}
 use Rattle.words.proofs.Lists.{upTo-out, length-upTo, getD-byte}
 use Rattle.words.proofs.Order.{less-trans, rises-append}
+use Rattle.words.specs.LittleEndian.{byte, two, eight}
+use Rattle.meaning.specs.Parts.{classCount, startingStart, finalStart}
 use Rattle.meaning.specs.Table.{rowKey, Row, GoodSet, GoodRow, Good as GoodTable}
 use Rattle.sets.specs.Sets.{members}
-use Rattle.table.specs.File.{byte, two, eight, rowCount, rowStart, wordsStart, rowAt, tableOf}
+use Rattle.table.specs.File.{rowCount, rowStart, wordsStart, rowAt, tableOf}
 use Rattle.table.specs.Good.{Edition, first, Good, Rows}
 use Rattle.sets.proofs.Members.{members-rise, members-below, members-some}
 
@@ -94,10 +96,10 @@ module _ {E : Edition} (wide : 255 ≤ E .limits .word) (file : List ℕ) (bytes
         markers = g .head .markers;
         depthCap = g .head .depthCap;
         waitingCap = g .head .waitingCap;
-        symbols = λ a h. rw (le-ltb a 256 h);
-        starting = good-set (byte file 1) (eight file 284) (g .sets .starting);
-        some = members-some (eight file 284) (g .sets .some) (eight-below file bytes 284);
-        final = good-set (byte file 1) (eight file 292) (g .sets .final);
+        symbols = λ a h. rw (le-ltb a classCount h);
+        starting = good-set (byte file 1) (eight file startingStart) (g .sets .starting);
+        some = members-some (eight file startingStart) (g .sets .some) (eight-below file bytes startingStart);
+        final = good-set (byte file 1) (eight file finalStart) (g .sets .final);
         count = simp (length-map, length-upTo) (g .contents .count);
         row = λ r m.
             let x = Memᴰ·of-map (rowAt file) (upTo (rowCount file)) m in
@@ -120,7 +122,7 @@ unfolding tableOf
 starting-of file g =
     let s = g .sets in
     let room = g .head .states .1 in (
-      good-set (byte file 1) (eight file 284) (s .starting),
-      members-some (eight file 284) (s .some) (lt-of-lt-of-le (s .starting) (pow-mono room)),
+      good-set (byte file 1) (eight file startingStart) (s .starting),
+      members-some (eight file startingStart) (s .some) (lt-of-lt-of-le (s .starting) (pow-mono room)),
       room,
     )

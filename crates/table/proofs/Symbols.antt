@@ -11,7 +11,8 @@ use Rattle.words.specs.Order.{Less}
 use Rattle.meaning.specs.Table.{Row, rowKey}
 use Rattle.table.specs.File.{rowCount, rowAt}
 use Rattle.table.specs.Good.{Rows}
-use Rattle.table.specs.Calls.{Before, FirstRow}
+use Rattle.table.specs.Calls.{Before, FirstRow, RowsFrom}
+use Rattle.table.specs.declared.read.Rows.{Rows as Part}
 
 first-up : {x y : ℕ} {Q : Type 0} → (x < y) ⊎ ((x ≡ y) × Q) → x ≤ y
 first-up (inl h) = omega arith
@@ -78,6 +79,21 @@ module _ (file : List ℕ) (rows : Rows file) where
           onward = λ k n w t. s (before-up k m n w t);
         }
 
+  -- the search for where the rows from the next state would stand goes up from the first: all passed stand before
+  -- these, and one that is not of the symbol from the state does not
+  pub stops : {a q n r : ℕ} → FirstRow file a q n → n ≤ r → r < rowCount file
+      → ((k : ℕ) → k < r → Before (rowAt file k) a (q + 1))
+      → (rowAt file r .symbol ≡ a → rowAt file r .from ≡ q → ⊥) → FirstRow file a (q + 1) r
+  stops {a} {q} {n} {r} f l m passed other =
+      record {
+        within = omega arith;
+        before = passed;
+        onward = λ k u w b.
+            let s = before-up k r u w b in
+            f .onward r l m
+            (record { symbols = s .symbols; froms = λ e. let d = other e in let h = s .froms e in omega arith });
+      }
+
   -- behind the first, and behind one that is not of the symbol from the state, there is none
   pub none-behind : {a q n r : ℕ} → FirstRow file a q n → n ≤ r → r < rowCount file
       → (rowAt file r .symbol ≡ a → rowAt file r .from ≡ q → ⊥)
@@ -101,3 +117,47 @@ between-one b h =
 pub none-before : {file : List ℕ} {a q n : ℕ} → FirstRow file a q n → (k : ℕ) → k < n → rowAt file k .symbol ≡ a
     → rowAt file k .from ≡ q → ⊥
 none-before f k l s t = let b = f .before k l .froms s in omega arith
+
+-- what stands before those of a state stands before those of the next, and so do those of the state
+pub before-next : {x : Row} {a q : ℕ} → Before x a q → Before x a (q + 1)
+before-next b = record { symbols = b .symbols; froms = λ e. let h = b .froms e in omega arith }
+
+pub has-before : {x : Row} {a q : ℕ} → x .symbol ≡ a → x .from ≡ q → Before x a (q + 1)
+has-before s t = record { symbols = omega arith; froms = λ e. omega arith }
+
+-- the rows of a symbol from a state are those of their part, and no others
+module _ {file : List ℕ} {a q : ℕ} {r : Part} (f : RowsFrom file a q r) where
+  pub rows-ordered : r .first ≤ r .end
+  rows-ordered = go (eq-zero-or-pos (r .first - r .end))
+    where
+      go : (r .first - r .end ≡ 0) ⊎ (0 < r .first - r .end) → r .first ≤ r .end
+      go (inl e) = omega arith
+      go (inr l) =
+          absurd
+          (f .ends .onward (r .end) (omega arith) (let w = f .starts .within in omega arith)
+          (before-next (f .starts .before (r .end) (omega arith))))
+
+  pub rows-have : (k : ℕ) → r .first ≤ k → k < r .end → (rowAt file k .symbol ≡ a) × (rowAt file k .from ≡ q)
+  rows-have k l h = go (eq-zero-or-pos (a - x .symbol)) (eq-zero-or-pos (q - x .from))
+    where
+      x : Row
+      x = rowAt file k
+
+      up : Before x a (q + 1)
+      up = f .ends .before k h
+
+      down : Before x a q → ⊥
+      down = f .starts .onward k l (let w = f .ends .within in omega arith)
+
+      go : (a - x .symbol ≡ 0) ⊎ (0 < a - x .symbol) → (q - x .from ≡ 0) ⊎ (0 < q - x .from)
+          → (x .symbol ≡ a) × (x .from ≡ q)
+      go (inl d) (inl e) =
+          let s = up .symbols in
+          let is : x .symbol ≡ a = omega arith in
+          (is, let t = up .froms is in omega arith)
+      go (inl d) (inr m) =
+          absurd (down (record { symbols = up .symbols; froms = λ e. omega arith }))
+      go (inr m) e = absurd (down (record { symbols = up .symbols; froms = λ e. absurd (omega arith) }))
+
+  pub rows-behind : (k : ℕ) → r .end ≤ k → k < rowCount file → rowAt file k .symbol ≡ a → rowAt file k .from ≡ q → ⊥
+  rows-behind k l h s t = f .ends .onward k l h (has-before s t)

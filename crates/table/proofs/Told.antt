@@ -1,9 +1,10 @@
--- What is judged of a file is one thing only, and so is what `class_of` and `first_row` tell. Assumes nothing.
+-- What is judged of a file is one thing only, and so is what `class_of`, `first_row` and
+-- `rows_from` tell. Assumes nothing.
 use mathlib.Core.Path.{_≡_, refl, sym, _∙_}
 use mathlib.Core.Bool.{Bool, true, false}
 use mathlib.Core.Logic.{_⊎_, inl, inr}
 use mathlib.Core.List.{List}
-use Prim.Native.Nat.{ℕ, _-_, _<_}
+use Prim.Native.Nat.{ℕ, _+_, _-_, _<_}
 use native.Mathlib.Nat.{eq-zero-or-pos}
 use native.Mathlib.Omega.{arith}
 use lib.Dec.{eqb}
@@ -11,9 +12,10 @@ use borrow.Author.Tests.{eqb-true, eqb-false}
 use mathlib.Mathlib.Logic.Function.Defs.{LeftInverse·injective}
 use Rattle.meaning.specs.Table.{Class as Kind, unused, call, return, internal}
 use Rattle.table.specs.Good.{first, Good}
-use Rattle.table.specs.Calls.{Judged, meant, FirstRow}
+use Rattle.table.specs.Calls.{Judged, meant, FirstRow, RowsFrom}
 use Rattle.table.specs.declared.read.Class.{Class}
 use Rattle.table.specs.declared.read.Class.the-variants.{Unused, Call, Return, Internal}
+use Rattle.table.specs.declared.read.Rows.{Rows}
 
 -- two numbers that meet the promise of `check` on one file are the same
 pub judged-unique : {file : List ℕ} {m n : ℕ} → Judged file m → Judged file n → m ≡ n
@@ -41,7 +43,7 @@ meant-unique r q e = LeftInverse·injective back meant back-is r q e
     back-is Return = refl
     back-is Internal = refl
 
--- and two of `first_row`
+-- two of `first_row`,
 pub first-row-unique : (file : List ℕ) (symbol from r q : ℕ) → FirstRow file symbol from r
     → FirstRow file symbol from q → r ≡ q
 first-row-unique file symbol from r q f g = go (eq-zero-or-pos (q - r)) (eq-zero-or-pos (r - q))
@@ -53,3 +55,12 @@ first-row-unique file symbol from r q f g = go (eq-zero-or-pos (q - r)) (eq-zero
     go (inl d) (inl e) = omega arith
     go (inr d) e = absurd (apart r q f g (omega arith))
     go (inl d) (inr e) = absurd (apart q r g f (omega arith))
+
+-- and two of `rows_from`
+pub rows-from-unique : (file : List ℕ) (symbol from : ℕ) (r q : Rows) → RowsFrom file symbol from r
+    → RowsFrom file symbol from q → r ≡ q
+rows-from-unique file symbol from r q f g i =
+    record {
+      first = first-row-unique file symbol from (r .first) (q .first) (f .starts) (g .starts) i;
+      end = first-row-unique file symbol (from + 1) (r .end) (q .end) (f .ends) (g .ends) i;
+    }

@@ -4,11 +4,14 @@ use mathlib.Core.Logic.{_↔_}
 use mathlib.Core.List.{List}
 use Prim.Native.Nat.{ℕ, _+_, _*_, _<_, _≤_}
 use lib.ListN.{length}
+use Rattle.words.specs.LittleEndian.{byte, two}
+use Rattle.meaning.specs.Parts.{rowSize}
 use Rattle.meaning.specs.Table.{Class as Kind, unused, call, return, internal, Row}
-use Rattle.table.specs.File.{byte, two, rowCount, rowStart, wordsStart, rowAt}
+use Rattle.table.specs.File.{rowCount, rowStart, wordsStart, rowAt}
 use Rattle.table.specs.Good.{first, Good}
 use Rattle.table.specs.declared.read.Class.{Class}
 use Rattle.table.specs.declared.read.Class.the-variants.{Unused, Call, Return, Internal}
+use Rattle.table.specs.declared.read.Rows.{Rows}
 
 -- 1 BadTable: "the file breaks a rule above"; "Check and begin: 1"
 pub record Judged (file : List ℕ) (number : ℕ) : Type 0 where
@@ -33,9 +36,14 @@ pub record FirstRow (file : List ℕ) (symbol from r : ℕ) : Type 0 where
   pub before : (k : ℕ) → k < r → Before (rowAt file k) symbol from
   pub onward : (k : ℕ) → r ≤ k → k < rowCount file → Before (rowAt file k) symbol from → ⊥
 
+-- the rows of a symbol from a state: from the first of them on, up to where those from the next state would stand
+pub record RowsFrom (file : List ℕ) (symbol from : ℕ) (r : Rows) : Type 0 where
+  pub starts : FirstRow file symbol from (r .first)
+  pub ends : FirstRow file symbol (from + 1) (r .end)
+
 -- what functions inside ask: that a row stands in the file
 abbrev pub RowIn : List ℕ → ℕ → Type 0
-RowIn file i = rowStart i + 8 ≤ length file
+RowIn file i = rowStart i + rowSize ≤ length file
 
 -- what functions inside ask: that a row and its word stand in the file
 pub record WordIn (file : List ℕ) (i : ℕ) : Type 0 where

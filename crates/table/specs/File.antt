@@ -3,39 +3,30 @@ use mathlib.Core.Bool.{cond}
 use mathlib.Core.List.{List, map}
 use Prim.Native.Nat.{ℕ, _+_, _*_, _/_}
 use lib.Dec.{eqb, ltb}
-use lib.ListN.{getD, take, drop}
+use lib.ListN.{take, drop}
 use Rattle.words.specs.Lists.{upTo}
+use Rattle.words.specs.LittleEndian.{byte, two, eight}
 use Rattle.words.specs.Words.{Word}
+use Rattle.meaning.specs.Parts.{rowsEntry, wordsEntry, rowSize, classCount}
+use Rattle.meaning.specs.Parts.{classesStart, startingStart, finalStart, rowsStart}
 use Rattle.meaning.specs.Table.{Class, unused, call, return, internal, Row, Table}
 use Rattle.sets.specs.Sets.{members}
 
--- the byte at a place; past the end 0, which no rule of a good file asks for
-abbrev pub byte : List ℕ → ℕ → ℕ
-byte file i = getD file i 0
-
--- "numbers little-endian", of two bytes
-abbrev pub two : List ℕ → ℕ → ℕ
-two file i = byte file i + 256 * byte file (i + 1)
-
--- "A set is one 64-bit number", little-endian
-unfoldable pub eight : List ℕ → ℕ → ℕ
-eight file i = two file i + 65536 * (two file (i + 2) + 65536 * (two file (i + 4) + 65536 * two file (i + 6)))
-
 -- "8 bytes each": how many rows there are, by the length in the fourth entry
 abbrev pub rowCount : List ℕ → ℕ
-rowCount file = two file 22 / 8
+rowCount file = two file (rowsEntry + 2) / rowSize
 
 -- where a row stands: the rows body starts at byte 300
 abbrev pub rowStart : ℕ → ℕ
-rowStart i = 300 + 8 * i
+rowStart i = rowsStart + rowSize * i
 
 -- where the words body starts: behind the rows, "with no gap"
 abbrev pub wordsStart : List ℕ → ℕ
-wordsStart file = 300 + 8 * rowCount file
+wordsStart file = rowsStart + rowSize * rowCount file
 
 -- the length in the fifth entry
 abbrev pub wordsLength : List ℕ → ℕ
-wordsLength file = two file 26
+wordsLength file = two file (wordsEntry + 2)
 
 -- "For each row, its word is the part of the words body from that start for that length"
 abbrev pub wordOf : List ℕ → ℕ → Word
@@ -53,13 +44,13 @@ rowAt file i =
       word = wordOf file i;
     }
 
--- "0 unused, 1 call, 2 return, 3 internal"
+-- "Each symbol 0 to 255 has a class: 0 unused, 1 call, 2 return, 3 internal"
 abbrev pub classOf : ℕ → Class
 classOf n = cond (eqb n 0) unused (cond (eqb n 1) call (cond (eqb n 2) return internal))
 
 -- "Each symbol 0 to 255 has a class": the classes stand from byte 28
 abbrev pub classAt : List ℕ → ℕ → Class
-classAt file a = cond (ltb a 256) (classOf (byte file (28 + a))) unused
+classAt file a = cond (ltb a classCount) (classOf (byte file (classesStart + a))) unused
 
 -- "The meaning of a table" is that of the table that a file stands for
 unfoldable pub tableOf : List ℕ → Table
@@ -70,7 +61,7 @@ tableOf file =
       depthCap = byte file 3;
       waitingCap = two file 4;
       class = classAt file;
-      starting = members (eight file 284);
-      final = members (eight file 292);
+      starting = members (eight file startingStart);
+      final = members (eight file finalStart);
       rows = map (rowAt file) (upTo (rowCount file));
     }

@@ -4,8 +4,11 @@ use Prim.Native.Nat.{ℕ, _+_, _*_, _^_, _<_, _≤_}
 use mathlib.Core.List.{List}
 use lib.ListN.{length}
 use Rattle.words.specs.Order.{Less}
+use Rattle.words.specs.LittleEndian.{byte, two, eight}
+use Rattle.meaning.specs.Parts.{headSize, classesEntry, startingEntry, finalEntry, rowsEntry, wordsEntry}
+use Rattle.meaning.specs.Parts.{classCount, setSize, rowSize, classesStart, startingStart, finalStart, rowsStart}
 use Rattle.meaning.specs.Table.{Limits, edition1, MarkFits, rowKey}
-use Rattle.table.specs.File.{byte, two, eight, rowCount, rowStart, wordsStart, wordsLength, rowAt, classAt}
+use Rattle.table.specs.File.{rowCount, rowStart, wordsStart, wordsLength, rowAt, classAt}
 
 -- an edition of the rule file: its number, and what it allows
 pub record Edition : Type 0 where
@@ -19,7 +22,7 @@ first = record { number = 1; limits = edition1 }
 -- bytes 0 to 7: "edition, 1 … states, 1 to 64 … markers, 0 to 64 … depth cap, 1 to 32 … waiting cap, 0 to 512 … length
 -- of the whole file"
 pub record Head (E : Edition) (file : List ℕ) : Type 0 where
-  pub long : 8 ≤ length file
+  pub long : headSize ≤ length file
   pub edition : byte file 0 ≡ E .number
   pub states : (1 ≤ byte file 1) × (byte file 1 ≤ E .limits .states)
   pub markers : byte file 2 ≤ E .limits .markers
@@ -34,25 +37,25 @@ pub record Entry (file : List ℕ) (at start size : ℕ) : Type 0 where
 
 -- "Bodies stand in this order from byte 28 with no gap and fill the file"
 pub record Contents (E : Edition) (file : List ℕ) : Type 0 where
-  pub long : 28 ≤ length file
-  pub classes : Entry file 8 28 256
-  pub starting : Entry file 12 284 8
-  pub final : Entry file 16 292 8
-  pub rows : Entry file 20 300 (8 * rowCount file)
+  pub long : classesStart ≤ length file
+  pub classes : Entry file classesEntry classesStart classCount
+  pub starting : Entry file startingEntry startingStart setSize
+  pub final : Entry file finalEntry finalStart setSize
+  pub rows : Entry file rowsEntry rowsStart (rowSize * rowCount file)
   pub count : rowCount file ≤ E .limits .rows
-  pub words : Entry file 24 (wordsStart file) (wordsLength file)
+  pub words : Entry file wordsEntry (wordsStart file) (wordsLength file)
   pub bytes : wordsLength file ≤ E .limits .words
   pub fill : wordsStart file + wordsLength file ≡ length file
 
 -- "classes (256 bytes, each 0 to 3)"
 pub record Classes (file : List ℕ) : Type 0 where
-  pub each : (a : ℕ) → a < 256 → byte file (28 + a) ≤ 3
+  pub each : (a : ℕ) → a < classCount → byte file (classesStart + a) ≤ 3
 
 -- "bits from the state count upward are 0. The starting set isn't empty; the final set may be"
 pub record Sets (file : List ℕ) : Type 0 where
-  pub starting : eight file 284 < 2 ^ byte file 1
-  pub some : 0 < eight file 284
-  pub final : eight file 292 < 2 ^ byte file 1
+  pub starting : eight file startingStart < 2 ^ byte file 1
+  pub some : 0 < eight file startingStart
+  pub final : eight file finalStart < 2 ^ byte file 1
 
 -- "Marker is 0 for an internal row, else 1 to the marker count", of a row by its place
 abbrev pub MarkAt : List ℕ → ℕ → Type 0

@@ -1,10 +1,24 @@
 // The rule file: what a good one says. Nothing outside the lent file is read.
-mod load;
+mod parts;
 mod read;
 
-pub use load::load_eight;
-pub use load::load_two;
+pub use parts::CLASS_COUNT;
+pub use parts::CLASSES_ENTRY;
+pub use parts::CLASSES_START;
+pub use parts::FINAL_ENTRY;
+pub use parts::FINAL_START;
+pub use parts::HEAD_SIZE;
+pub use parts::ROW_SIZE;
+pub use parts::ROWS_ENTRY;
+pub use parts::ROWS_LENGTH_AT;
+pub use parts::ROWS_START;
+pub use parts::SET_SIZE;
+pub use parts::STARTING_ENTRY;
+pub use parts::STARTING_START;
+pub use parts::WORDS_ENTRY;
+pub use parts::WORDS_LENGTH_AT;
 pub use read::Class;
+pub use read::Rows;
 pub use read::class_of;
 pub use read::depth_cap;
 pub use read::final_set;
@@ -16,6 +30,7 @@ pub use read::row_marker;
 pub use read::row_symbol;
 pub use read::row_to;
 pub use read::row_word;
+pub use read::rows_from;
 pub use read::starting_set;
 pub use read::states;
 pub use read::waiting_cap;

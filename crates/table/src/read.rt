@@ -1,6 +1,12 @@
 // What a good file says. These ask for a file that `check` took, and for a row that is there.
-use crate::load::load_eight;
-use crate::load::load_two;
+use crate::parts::CLASSES_START;
+use crate::parts::FINAL_START;
+use crate::parts::ROW_SIZE;
+use crate::parts::ROWS_LENGTH_AT;
+use crate::parts::ROWS_START;
+use crate::parts::STARTING_START;
+use words::load_eight;
+use words::load_two;
 use words::wide;
 ghost use mathlib.Core.Path.{_≡_};
 ghost use Prim.Native.Nat.{_<_};
@@ -8,7 +14,7 @@ ghost use Rattle.words.specs.Lists.{Exact};
 ghost use Rattle.table.specs.File.{rowCount, rowAt, wordOf, tableOf};
 ghost use Rattle.sets.specs.Sets.{members};
 ghost use Rattle.table.specs.Good.{first, Good};
-ghost use Rattle.table.specs.Calls.{meant, WordIn, Before, FirstRow};
+ghost use Rattle.table.specs.Calls.{meant, WordIn, Before, FirstRow, RowsFrom};
 
 pub fn states(file: &[u8]) -> usize
     requires { ⌜ Good first (now file) ⌝ }
@@ -42,14 +48,14 @@ pub fn starting_set(file: &[u8]) -> u64
     requires { ⌜ Good first (now file) ⌝ }
     ensures { λ r. ⌜ members r ≡ tableOf (now (file .entry)) .starting ⌝ }
 {
-    load_eight(file, 284)
+    load_eight(file, STARTING_START)
 }
 
 pub fn final_set(file: &[u8]) -> u64
     requires { ⌜ Good first (now file) ⌝ }
     ensures { λ r. ⌜ members r ≡ tableOf (now (file .entry)) .final ⌝ }
 {
-    load_eight(file, 292)
+    load_eight(file, FINAL_START)
 }
 
 pub enum Class {
@@ -63,7 +69,7 @@ pub fn class_of(file: &[u8], symbol: u8) -> Class
     requires { ⌜ Good first (now file) ⌝ }
     ensures { λ r. ⌜ meant r ≡ tableOf (now (file .entry)) .class symbol ⌝ }
 {
-    let class = wide(file[28 + wide(symbol)]);
+    let class = wide(file[CLASSES_START + wide(symbol)]);
     if class == 0 {
         return Class::Unused;
     }
@@ -80,35 +86,35 @@ pub fn row_count(file: &[u8]) -> usize
     requires { ⌜ Good first (now file) ⌝ }
     ensures { λ r. ⌜ r ≡ rowCount (now (file .entry)) ⌝ }
 {
-    load_two(file, 22) / 8
+    load_two(file, ROWS_LENGTH_AT) / ROW_SIZE
 }
 
 pub fn row_symbol(file: &[u8], i: usize) -> usize
     requires { ⌜ (Good first (now file)) × (i < rowCount (now file)) ⌝ }
     ensures { λ r. ⌜ r ≡ rowAt (now (file .entry)) i .symbol ⌝ }
 {
-    wide(file[300 + 8 * i])
+    wide(file[ROWS_START + ROW_SIZE * i])
 }
 
 pub fn row_from(file: &[u8], i: usize) -> usize
     requires { ⌜ (Good first (now file)) × (i < rowCount (now file)) ⌝ }
     ensures { λ r. ⌜ r ≡ rowAt (now (file .entry)) i .from ⌝ }
 {
-    wide(file[300 + 8 * i + 1])
+    wide(file[ROWS_START + ROW_SIZE * i + 1])
 }
 
 pub fn row_to(file: &[u8], i: usize) -> usize
     requires { ⌜ (Good first (now file)) × (i < rowCount (now file)) ⌝ }
     ensures { λ r. ⌜ r ≡ rowAt (now (file .entry)) i .to ⌝ }
 {
-    wide(file[300 + 8 * i + 2])
+    wide(file[ROWS_START + ROW_SIZE * i + 2])
 }
 
 pub fn row_marker(file: &[u8], i: usize) -> usize
     requires { ⌜ (Good first (now file)) × (i < rowCount (now file)) ⌝ }
     ensures { λ r. ⌜ r ≡ rowAt (now (file .entry)) i .marker ⌝ }
 {
-    wide(file[300 + 8 * i + 3])
+    wide(file[ROWS_START + ROW_SIZE * i + 3])
 }
 
 // A row's word, as a part of the lent file.
@@ -116,8 +122,9 @@ pub fn row_word(file: &[u8], i: usize) -> &[u8]
     requires { ⌜ WordIn (now file) i ⌝ }
     ensures { λ r. ⌜ now r ≡ wordOf (now (file .entry)) i ⌝ }
 {
-    let at = 300 + 8 * i;
-    let start = 300 + 8 * (load_two(file, 22) / 8) + load_two(file, at + 4);
+    let at = ROWS_START + ROW_SIZE * i;
+    let count = load_two(file, ROWS_LENGTH_AT) / ROW_SIZE;
+    let start = ROWS_START + ROW_SIZE * count + load_two(file, at + 4);
     let end = start + wide(file[at + 6]);
     &file[start..end]
 }
@@ -151,4 +158,29 @@ pub fn first_row(file: &[u8], symbol: u8, from: usize) -> usize
         }
     }
     low
+}
+
+// The rows of a symbol from a state, which stand side by side: those from `first` on that are below `end`.
+pub struct Rows {
+    pub first: usize,
+    pub end: usize,
+}
+
+pub fn rows_from(file: &[u8], symbol: u8, from: usize) -> Rows
+    requires { ⌜ Good first (now file) ⌝ }
+    ensures { λ r. ⌜ RowsFrom (now (file .entry)) symbol from r ⌝ }
+{
+    let n = row_count(file);
+    let first = first_row(file, symbol, from);
+    let mut end = first;
+    while end < n {
+        if row_symbol(file, end) != wide(symbol) {
+            return Rows { first, end };
+        }
+        if row_from(file, end) != from {
+            return Rows { first, end };
+        }
+        end += 1;
+    }
+    Rows { first, end }
 }

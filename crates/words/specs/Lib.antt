@@ -1,7 +1,8 @@
 -- What must be believed of words: lists, the longest common beginning, order and rising lists, bytes taken
--- together, what calls answer.
+-- together, numbers of several bytes, what calls answer.
 pub mod Lists
 pub mod Words
 pub mod Order
 pub mod Together
+pub mod LittleEndian
 pub mod Calls

@@ -3,6 +3,7 @@
 mod all_bytes;
 mod beginning;
 mod byte_order;
+mod little_endian;
 mod writing;
 
 pub use all_bytes::together;
@@ -11,6 +12,8 @@ pub use beginning::common_length;
 pub use byte_order::Order;
 pub use byte_order::compare;
 pub use byte_order::same;
+pub use little_endian::load_eight;
+pub use little_endian::load_two;
 pub use writing::clear;
 pub use writing::copy;
 pub use writing::insert;

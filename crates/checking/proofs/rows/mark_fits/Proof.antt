@@ -2,7 +2,8 @@
 use mathlib.Core.Path.{ap, _∙_}
 use Prim.Native.Nat.{ℕ, _+_}
 use native.Mathlib.Omega.{arith}
-use Rattle.table.specs.File.{byte}
+use Rattle.words.specs.LittleEndian.{byte}
+use Rattle.meaning.specs.Parts.{classesStart}
 use Rattle.table.proofs.Marks.{mark-at}
 use borrow.Author.Needs.{needs}
 use Rattle.checking.proofs.rows.mark_fits.Statement.{statement}
@@ -55,7 +56,8 @@ returns c =
     let after-symbol = after-class .before .before in
     let args = after-symbol .before .before .before .args in
     let symbol-read = after-symbol .wide .ensures .0 in
-    let class-read = after-class .wide2 .ensures .0 ∙ ap (λ (n : ℕ). byte (args .file .now) (28 + n)) symbol-read in
+    let class-read =
+    after-class .wide2 .ensures .0 ∙ ap (λ (n : ℕ). byte (args .file .now) (classesStart + n)) symbol-read in
     mark-at (args .file .now) (args .i) (after-class .wide2 .result) (after-markers .wide3 .result)
     (after-marker .wide4 .result) (omega arith) class-read (omega arith) (omega arith) (c .mark-suits .ensures)
 

@@ -2,7 +2,9 @@
 use mathlib.Core.Path.{_≡_, sym, ap, _∙_}
 use Prim.Native.Nat.{ℕ, _+_}
 use native.Mathlib.Omega.{arith}
-use Rattle.table.specs.File.{byte, classOf, classAt, tableOf}
+use Rattle.words.specs.LittleEndian.{byte}
+use Rattle.meaning.specs.Parts.{classesStart}
+use Rattle.table.specs.File.{classOf, classAt, tableOf}
 use Rattle.table.proofs.Marks.{class-at, class-unused, class-call, class-return, class-internal}
 use borrow.Author.Needs.{needs}
 use Rattle.table.proofs.read.class_of.Statement.{statement}
@@ -16,7 +18,7 @@ class-told c =
     let after-symbol = c .before .before in
     let args = after-symbol .before .before .args in
     let symbol-read = after-symbol .wide .ensures .0 in
-    let class-read = c .wide2 .ensures .0 ∙ ap (λ (n : ℕ). byte (args .file .now) (28 + n)) symbol-read in
+    let class-read = c .wide2 .ensures .0 ∙ ap (λ (n : ℕ). byte (args .file .now) (classesStart + n)) symbol-read in
     class-at (args .file .now) (args .symbol) (c .wide2 .result) (omega arith) class-read
 
 wide-requires : tie.Need-wide-requires

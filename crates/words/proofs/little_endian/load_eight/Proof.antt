@@ -1,9 +1,9 @@
--- `table::load::load_eight` meets its contract. Assumes nothing.
+-- `words::little_endian::load_eight` meets its contract. Assumes nothing.
 use native.Mathlib.Omega.{arith}
-use Rattle.table.specs.File.{eight}
+use Rattle.words.specs.LittleEndian.{eight}
 use borrow.Author.Needs.{needs}
-use Rattle.table.proofs.load.load_eight.Statement.{statement}
-use Rattle.table.proofs.load.load_eight.Tie as tie
+use Rattle.words.proofs.little_endian.load_eight.Statement.{statement}
+use Rattle.words.proofs.little_endian.load_eight.Tie as tie
 
 add-load-two : tie.Need-add-load-two
 add-load-two c = search needs
