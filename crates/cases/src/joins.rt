@@ -154,7 +154,8 @@ fn worked_otherwise() {
     let second = second_hop();
     let short = first_hop(b"(\x00\x00\x01\x02)\x00\x00\x01\x01", b"[{}");
     tried(b"} for }]", &short, &second, ROOM);
-    let both = first_hop(
+    let both = outer(
+        b"\x01\x01\x04\x04",
         b"(\x00\x00\x01\x02)\x00\x00\x01\x02<\x00\x00\x01\x02>\x00\x00\x01\x02",
         b"[{}]{[]}",
     );
@@ -258,7 +259,8 @@ fn marks() {
         b"abcd",
     );
     shown(b"a return from the popped list", &first, &forked);
-    let open = first_hop(
+    let open = outer(
+        b"\x01\x01\x04\x04",
         b"(\x00\x00\x01\x00(\x00\x00\x01\x01<\x00\x00\x01\x01<\x00\x00\x01\x02",
         b"{[[{",
     );

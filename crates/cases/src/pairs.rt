@@ -155,9 +155,9 @@ fn number_row(rows: &mut [u8], i: usize, calls: bool)
     put(rows, 5 * i, &row[..]);
 }
 
-// The first table of the worked join, with these rows.
+// The first table of the worked join, with these rows: nothing but `(` and `)` has a class.
 pub(crate) fn first_hop(rows: &[u8], words: &[u8]) -> [u8; LARGEST] {
-    laid(b"\x01\x01\x04\x04", b"(\x01)\x02<\x01>\x02", rows, words)
+    laid(b"\x01\x01\x04\x04", b"(\x01)\x02", rows, words)
 }
 
 // The second: `[` marker 1 `a`, `{` marker 2 `b`, `}` marker 2 `c`, `]` marker 1 `d`.

@@ -138,11 +138,13 @@ module _ (T : Table) (u z : Word) (X : List Place) (runs : Alike (living T u) (a
 
   -- one trail and different outputs
   abbrev Clash : Place → Place → Type 0
-  Clash p q = (trailKey (p .trail) ≡ trailKey (q .trail)) × (p .output ≡ q .output → ⊥)
+  Clash p q = (p .trail ≡ q .trail) × (p .output ≡ q .output → ⊥)
 
   clash-exact : (p q : Place) → Exact (Clash p q) (clash p q)
   clash-exact p q =
-      and-exact (same-exact (trailKey (p .trail)) (trailKey (q .trail)))
+      and-exact
+      (exact-as (trailKey-one (p .trail) (q .trail), ap trailKey)
+      (same-exact (trailKey (p .trail)) (trailKey (q .trail))))
       (not-exact (same-exact (p .output) (q .output)))
 
   pub conflict-exact : Exact (Conflict T u) (anyOf (λ p. anyOf (clash p) X) X)
@@ -157,7 +159,7 @@ module _ (T : Table) (u z : Word) (X : List Place) (runs : Alike (living T u) (a
           let s = runs-of q (x .2 .1) in (
             r .run,
             s .run,
-            r .trail ∙ trailKey-one (p .trail) (q .trail) (c .0) ∙ sym (s .trail),
+            r .trail ∙ c .0 ∙ sym (s .trail),
             λ d. c .1 (append-cancel-left z (p .output) (q .output) (sym (r .output) ∙ d ∙ s .output)),
           )
 
@@ -168,7 +170,7 @@ module _ (T : Table) (u z : Word) (X : List Place) (runs : Alike (living T u) (a
           let t : r .place .trail ≡ s .place .trail = sym (r .trail) ∙ c .2 ∙ s .trail in
           let d : r .place .output ≡ s .place .output → ⊥ =
           λ e. c .3 (r .output ∙ ap (λ (w : Word). z ++ w) e ∙ sym (s .output)) in
-          (r .place, r .listed, (s .place, s .listed, (ap trailKey t, d)))
+          (r .place, r .listed, (s .place, s .listed, (t, d)))
 
   -- what a run has waiting, when all that can be is sent
   waits : (r : Run T u) (p : Place) → p among X → r .end .output ≡ z ++ p .output
