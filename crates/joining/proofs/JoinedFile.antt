@@ -2,7 +2,7 @@
 -- Assumes nothing.
 use mathlib.Core.Path.{_≡_, sym, subst}
 use mathlib.Core.Logic.{_↔_, inr}
-use Prim.Native.Nat.{ℕ, _<_, _≤_}
+use Prim.Native.Nat.{ℕ, _<_}
 use native.Mathlib.Omega.{arith}
 use lib.ListN.{length}
 use Rattle.words.specs.Words.{Word, Bytes}
@@ -16,7 +16,6 @@ use Rattle.meaning.proofs.JoinGood.{join-good}
 use Rattle.table.specs.File.{tableOf}
 use Rattle.table.specs.Good.{first, Good}
 use Rattle.joining.specs.Laid.{fileOf}
-use Rattle.joining.proofs.Laid.{file-length}
 use Rattle.joining.proofs.Back.{Fits, room1, table-of}
 use Rattle.joining.proofs.GoodFile.{good-file}
 use Rattle.joining.proofs.FileBytes.{file-bytes}
@@ -37,10 +36,7 @@ module _ (A B : Table) (goodA : GoodTable edition1 A) (goodB : GoodTable edition
             omega arith;
       }
 
-  -- the file has room, check takes it, all its numbers are bytes, and the table it stands for is the joined table
-  pub joined-room : length (fileOf (joined A B)) ≤ room
-  joined-room = let h = none .1 .1 .0 in omega (arith, file-length (joined A B))
-
+  -- check takes the file, all its numbers are bytes, and the table it stands for is the joined table
   pub joined-file : Good first (fileOf (joined A B))
   joined-file = good-file fits
 

@@ -186,6 +186,3 @@ module _ (A B : Table) where
         left = ap (λ (k : Class). leaves k (d .0 .stack)) c;
       } in
       (j, c, f .1)
-
-  pub marks-rise : Rises markKey (marks A B)
-  marks-rise = arranged-rises markKey (made (pushed A B) (B .states) (A .rows))

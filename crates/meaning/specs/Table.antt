@@ -1,6 +1,6 @@
 -- A table: 000, definition 12, and 004, definition 1.2, with the counts and caps of document 01; what makes it good.
 use mathlib.Core.Path.{_≡_}
-use mathlib.Core.Bool.{Bool}
+use mathlib.Core.Bool.{Bool, cond}
 use mathlib.Core.List.{List, [], _∷_}
 use Prim.Native.Nat.{ℕ, _<_, _≤_}
 use lib.Dec.{eqb}
@@ -18,6 +18,10 @@ code unused = 0
 code call = 1
 code return = 2
 code internal = 3
+
+-- the class that a number stands for
+abbrev pub classOf : ℕ → Class
+classOf n = cond (eqb n 0) unused (cond (eqb n 1) call (cond (eqb n 2) return internal))
 
 abbrev pub is : Class → Class → Bool
 is j k = eqb (code j) (code k)

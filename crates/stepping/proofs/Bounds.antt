@@ -127,9 +127,6 @@ module _ (T : Table) (good : Good edition1 T) (S : Session) (ok : Sound T S) whe
       tops-small (record { trail = p .0; rest = s .0; is = p .2; below = s .2 }) (ok .ranges l x h)
       (omega (arith, level-linkOf (p .0), p .4, ok .depth))
 
-  pub lower-small : (n : ℕ) (e : Entry) → e among lower n (S .entries) → Small (e .link)
-  lower-small n e m = has-small (e .link) (e .piece) (lower-out n (S .entries) m .0)
-
   -- an entry that follows by a row: its link is in range, its piece is made of what was there and the row's word
   record Came (r : Row) (z : Entry) : Type 0 where
     ranges : Ranges T (z .link)
@@ -223,13 +220,6 @@ module _ (T : Table) (good : Good edition1 T) (S : Session) (ok : Sound T S) whe
         tops-small (grow-tops T S a (ok .lies) z m) (grow-ranges z m) (omega (arith, grow-level T S a z m))
 
     -- what is kept
-    pub kept-short : (z : Entry) → z among kept T S a .entries → length (z .piece) ≤ 767
-    kept-short z m = go (kept-cases T S a z m)
-      where
-        go : (z among S .entries) ⊎ (z among grow T S a) → length (z .piece) ≤ 767
-        go (inl n) = omega (arith, piece-short T good S ok z n)
-        go (inr n) = grow-short z n
-
     pub kept-small : deeper (T .class a) (S .depth) ≤ T .depthCap → (z : Entry) → z among kept T S a .entries
         → Small (z .link)
     kept-small le z m = go (kept-cases T S a z m)
