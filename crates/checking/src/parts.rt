@@ -18,7 +18,6 @@ use words::load_eight;
 use words::load_two;
 use words::together;
 use words::wide;
-ghost use mathlib.Core.Path.{_≡_};
 ghost use Prim.Native.Nat.{_+_, _^_, _≤_, _<_};
 ghost use lib.ListN.{length};
 ghost use Rattle.words.specs.Lists.{Exact};

@@ -11,8 +11,8 @@ use words::load_two;
 use words::wide;
 ghost use Prim.Native.Nat.{_+_};
 ghost use Rattle.words.specs.Lists.{Exact};
-ghost use Rattle.meaning.specs.Table.{MarkFits};
-ghost use Rattle.table.specs.File.{classOf, rowAt};
+ghost use Rattle.meaning.specs.Table.{classOf, MarkFits};
+ghost use Rattle.table.specs.File.{rowAt};
 ghost use Rattle.table.specs.Good.{first, Contents, MarkAt, RowFits, Rising, Rows};
 ghost use Rattle.table.specs.Calls.{RowIn, WordIn, Headed};
 

@@ -13,12 +13,13 @@ use Rattle.words.specs.Lists.{upTo}
 use Rattle.words.proofs.Lists.{length-upTo, below-or, getD-map-upTo}
 use Rattle.words.specs.LittleEndian.{byte, two, eight}
 use Rattle.meaning.specs.Parts.{rowsEntry, wordsEntry, classCount, rowSize, startingStart, finalStart, rowsStart}
-use Rattle.meaning.specs.Table.{Class, unused, call, return, internal, code, Table, Limits, edition1}
+use Rattle.meaning.specs.Table.{code, Table, Limits, edition1}
 use Rattle.meaning.specs.Table.{GoodSet, Good}
 use Rattle.meaning.specs.Runs.{said}
 use Rattle.meaning.specs.Joining.{fileSize}
+use Rattle.meaning.proofs.Shift.{class-code}
 use Rattle.sets.specs.Sets.{members}
-use Rattle.table.specs.File.{rowCount, rowStart, wordsLength, wordOf, rowAt, classOf, classAt}
+use Rattle.table.specs.File.{rowCount, rowStart, wordsLength, wordOf, rowAt, classAt}
 use Rattle.table.specs.File.{tableOf}
 use Rattle.table.proofs.Marks.{class-at}
 use Rattle.joining.specs.Laid.{setOf, fileOf}
@@ -44,12 +45,6 @@ room1 = record {
   word = omega arith;
   whole = omega arith;
 }
-
-class-code : (k : Class) → classOf (code k) ≡ k
-class-code unused = refl
-class-code call = refl
-class-code return = refl
-class-code internal = refl
 
 two-is : (n : ℕ) → n ≤ 65535 → n % 256 + 256 * (n / 256 % 256) ≡ n
 two-is n h = omega arith

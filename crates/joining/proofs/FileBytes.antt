@@ -1,13 +1,12 @@
 -- Every number in the rule file of a good table is a byte. Assumes nothing.
 use mathlib.Core.Path.{refl, sym, subst}
-use mathlib.Core.Logic.{_⊎_, inl, inr}
 use mathlib.Core.List.{List, [], _∷_, _++_, Memᴰ·of-map, List·Memᴰ·head, List·Memᴰ·tail}
 use Prim.Native.Nat.{ℕ, _+_, _*_, _<_, _≤_}
 use native.Mathlib.Omega.{arith}
 use lib.ListN.{length}
 use Rattle.words.specs.Lists.{_among_, upTo}
 use Rattle.words.specs.Words.{Bytes}
-use Rattle.words.proofs.Lists.{each-out, below-or, bytes-nil, bytes-cons, bytes-append}
+use Rattle.words.proofs.Lists.{each-out, bytes-nil, bytes-cons, bytes-append}
 use Rattle.meaning.specs.Parts.{classCount, setSize, rowSize, classesStart, startingStart, finalStart, rowsStart}
 use Rattle.meaning.specs.Table.{Class, unused, call, return, internal, code, Row, Table, Limits, MarkFits}
 use Rattle.meaning.specs.Runs.{said}
@@ -34,13 +33,10 @@ then-two m n {l} h =
 module _ {L : Limits} {T : Table} (fits : Fits L T) where
   -- a symbol from classCount on is unused, and no row has it
   symbol-byte : (r : Row) → r among T .rows → r .symbol < classCount
-  symbol-byte r m = go (below-or (r .symbol) classCount) (fits .good .row r m .marker)
-    where
-      go : (r .symbol < classCount) ⊎ (classCount ≤ r .symbol)
-          → MarkFits (T .class (r .symbol)) (T .markers) (r .marker)
-          → r .symbol < classCount
-      go (inl h) f = h
-      go (inr h) f = absurd (rw (fits .good .symbols (r .symbol) h) at f)
+  symbol-byte r m =
+      let used : classCount ≤ r .symbol → ⊥
+      = λ h. rw (fits .good .symbols (r .symbol) h) at (fits .good .row r m .marker) in
+      omega arith
 
   row-bytes : (start : ℕ) (r : Row) → r among T .rows → Bytes (rowBytes start r)
   row-bytes start r m =

@@ -11,9 +11,9 @@ use Rattle.words.proofs.Lists.{length-upTo, getD-map-upTo}
 use Rattle.words.proofs.Puts.{appended-whole}
 use Rattle.words.specs.LittleEndian.{byte}
 use Rattle.meaning.specs.Parts.{classCount, rowSize, classesStart, rowsStart}
-use Rattle.meaning.specs.Table.{Class, code, Row, Table}
+use Rattle.meaning.specs.Table.{Class, code, classOf, Row, Table}
 use Rattle.meaning.specs.Runs.{said}
-use Rattle.table.specs.File.{classOf, tableOf}
+use Rattle.table.specs.File.{tableOf}
 use Rattle.table.specs.Good.{first as edition, Good}
 use Rattle.table.proofs.Marks.{class-at}
 use Rattle.joining.specs.Laid.{headBytes, contentBytes, classBytes, setBytes, rowsBytes, fileOf}

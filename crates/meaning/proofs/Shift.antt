@@ -1,6 +1,6 @@
 -- The tests of classes and the stacks that follow a row say exactly what they should. Assumes nothing.
 use mathlib.Core.Path.{_≡_, refl, sym, _∙_, ap}
-use mathlib.Core.Bool.{true, cond}
+use mathlib.Core.Bool.{true}
 use mathlib.Core.List.{List, [], _∷_, Memᴰ·cast, List·Memᴰ·head, List·Memᴰ·eq-of-singleton, nil≢cons}
 use mathlib.Core.List.{head-eq-of-cons-eq, tail-eq-of-cons-eq}
 use Prim.Native.Nat.{ℕ}
@@ -8,21 +8,17 @@ use lib.Dec.{eqb}
 use borrow.Author.Tests.{eqb-true, eq-eqb}
 use Rattle.words.specs.Lists.{_among_}
 use Rattle.words.proofs.Lists.{only-in, only-out}
-use Rattle.meaning.specs.Table.{Class, unused, call, return, internal, code, is}
+use Rattle.meaning.specs.Table.{Class, unused, call, return, internal, code, classOf, is}
 use Rattle.meaning.specs.Runs.{Shifts, shifted}
 
-classOf : ℕ → Class
-classOf n = cond (eqb n 0) unused (cond (eqb n 1) call (cond (eqb n 2) return internal))
-
-classOf-code : (k : Class) → classOf (code k) ≡ k
-unfolding classOf
-classOf-code unused = refl
-classOf-code call = refl
-classOf-code return = refl
-classOf-code internal = refl
+pub class-code : (k : Class) → classOf (code k) ≡ k
+class-code unused = refl
+class-code call = refl
+class-code return = refl
+class-code internal = refl
 
 pub is-out : (j k : Class) → is j k ≡ true → j ≡ k
-is-out j k e = sym (classOf-code j) ∙ ap classOf (eqb-true (code j) (code k) e) ∙ classOf-code k
+is-out j k e = sym (class-code j) ∙ ap classOf (eqb-true (code j) (code k) e) ∙ class-code k
 
 pub is-in : {j k : Class} → j ≡ k → is j k ≡ true
 is-in {j} {k} e = eq-eqb (code j) (code k) (ap code e)

@@ -1,6 +1,6 @@
 -- A table: 000, definition 12, and 004, definition 1.2, with the counts and caps of document 01; what makes it good.
 use mathlib.Core.Path.{_≡_}
-use mathlib.Core.Bool.{Bool}
+use mathlib.Core.Bool.{Bool, cond}
 use mathlib.Core.List.{List, [], _∷_}
 use Prim.Native.Nat.{ℕ, _<_, _≤_}
 use lib.Dec.{eqb}
@@ -19,6 +19,10 @@ code unused = 0
 code call = 1
 code return = 2
 code internal = 3
+
+-- "Each symbol 0 to 255 has a class: 0 unused, 1 call, 2 return, 3 internal"
+abbrev pub classOf : ℕ → Class
+classOf n = cond (eqb n 0) unused (cond (eqb n 1) call (cond (eqb n 2) return internal))
 
 -- whether two classes are the same
 abbrev pub is : Class → Class → Bool

@@ -12,8 +12,8 @@ use Rattle.words.specs.Lists.{Exact}
 use Rattle.words.proofs.Exact.{no-exact, eqb-exact}
 use Rattle.words.specs.LittleEndian.{byte}
 use Rattle.meaning.specs.Parts.{classCount, classesStart}
-use Rattle.meaning.specs.Table.{unused, call, return, internal, MarkFits}
-use Rattle.table.specs.File.{classOf, classAt, rowStart, rowAt}
+use Rattle.meaning.specs.Table.{unused, call, return, internal, classOf, MarkFits}
+use Rattle.table.specs.File.{classAt, rowStart, rowAt}
 
 -- the marker that each class asks for
 

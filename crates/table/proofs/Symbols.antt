@@ -128,36 +128,24 @@ has-before s t = record { symbols = omega arith; froms = λ e. omega arith }
 -- the rows of a symbol from a state are those of their part, and no others
 module _ {file : List ℕ} {a q : ℕ} {r : Part} (f : RowsFrom file a q r) where
   pub rows-ordered : r .first ≤ r .end
-  rows-ordered = go (eq-zero-or-pos (r .first - r .end))
-    where
-      go : (r .first - r .end ≡ 0) ⊎ (0 < r .first - r .end) → r .first ≤ r .end
-      go (inl e) = omega arith
-      go (inr l) =
-          absurd
-          (f .ends .onward (r .end) (omega arith) (let w = f .starts .within in omega arith)
-          (before-next (f .starts .before (r .end) (omega arith))))
+  rows-ordered =
+      let before : r .end < r .first → ⊥
+      = λ l.
+      f .ends .onward (r .end) (omega arith) (let w = f .starts .within in omega arith)
+      (before-next (f .starts .before (r .end) l)) in
+      omega arith
 
   pub rows-have : (k : ℕ) → r .first ≤ k → k < r .end → (rowAt file k .symbol ≡ a) × (rowAt file k .from ≡ q)
-  rows-have k l h = go (eq-zero-or-pos (a - x .symbol)) (eq-zero-or-pos (q - x .from))
-    where
-      x : Row
-      x = rowAt file k
-
-      up : Before x a (q + 1)
-      up = f .ends .before k h
-
-      down : Before x a q → ⊥
-      down = f .starts .onward k l (let w = f .ends .within in omega arith)
-
-      go : (a - x .symbol ≡ 0) ⊎ (0 < a - x .symbol) → (q - x .from ≡ 0) ⊎ (0 < q - x .from)
-          → (x .symbol ≡ a) × (x .from ≡ q)
-      go (inl d) (inl e) =
-          let s = up .symbols in
-          let is : x .symbol ≡ a = omega arith in
-          (is, let t = up .froms is in omega arith)
-      go (inl d) (inr m) =
-          absurd (down (record { symbols = up .symbols; froms = λ e. omega arith }))
-      go (inr m) e = absurd (down (record { symbols = up .symbols; froms = λ e. absurd (omega arith) }))
+  rows-have k l h =
+      let up = f .ends .before k h in
+      let s = up .symbols in
+      let down = f .starts .onward k l (let w = f .ends .within in omega arith) in
+      let lower : rowAt file k .symbol < a → ⊥
+      = λ m. down (record { symbols = s; froms = λ e. absurd (omega arith) }) in
+      let is : rowAt file k .symbol ≡ a = omega arith in
+      let t = up .froms is in
+      let earlier : rowAt file k .from < q → ⊥ = λ m. down (record { symbols = s; froms = λ e. m }) in
+      (is, omega arith)
 
   pub rows-behind : (k : ℕ) → r .end ≤ k → k < rowCount file → rowAt file k .symbol ≡ a → rowAt file k .from ≡ q → ⊥
   rows-behind k l h s t = f .ends .onward k l h (has-before s t)

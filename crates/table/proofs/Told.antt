@@ -2,10 +2,8 @@
 -- `rows_from` tell. Assumes nothing.
 use mathlib.Core.Path.{_≡_, refl, sym, _∙_}
 use mathlib.Core.Bool.{Bool, true, false}
-use mathlib.Core.Logic.{_⊎_, inl, inr}
 use mathlib.Core.List.{List}
-use Prim.Native.Nat.{ℕ, _+_, _-_, _<_}
-use native.Mathlib.Nat.{eq-zero-or-pos}
+use Prim.Native.Nat.{ℕ, _+_, _<_}
 use native.Mathlib.Omega.{arith}
 use lib.Dec.{eqb}
 use borrow.Author.Tests.{eqb-true, eqb-false}
@@ -46,15 +44,13 @@ meant-unique r q e = LeftInverse·injective back meant back-is r q e
 -- two of `first_row`,
 pub first-row-unique : (file : List ℕ) (symbol from r q : ℕ) → FirstRow file symbol from r
     → FirstRow file symbol from q → r ≡ q
-first-row-unique file symbol from r q f g = go (eq-zero-or-pos (q - r)) (eq-zero-or-pos (r - q))
+first-row-unique file symbol from r q f g =
+    let a = apart f g in
+    let b = apart g f in
+    omega arith
   where
-    apart : (r q : ℕ) → FirstRow file symbol from r → FirstRow file symbol from q → r < q → ⊥
-    apart r q f g l = f .onward r (omega arith) (let w = g .within in omega arith) (g .before r l)
-
-    go : (q - r ≡ 0) ⊎ (0 < q - r) → (r - q ≡ 0) ⊎ (0 < r - q) → r ≡ q
-    go (inl d) (inl e) = omega arith
-    go (inr d) e = absurd (apart r q f g (omega arith))
-    go (inl d) (inr e) = absurd (apart q r g f (omega arith))
+    apart : {r q : ℕ} → FirstRow file symbol from r → FirstRow file symbol from q → r < q → ⊥
+    apart {r} f g l = f .onward r (omega arith) (let w = g .within in omega arith) (g .before r l)
 
 -- and two of `rows_from`
 pub rows-from-unique : (file : List ℕ) (symbol from : ℕ) (r q : Rows) → RowsFrom file symbol from r

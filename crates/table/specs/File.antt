@@ -2,14 +2,14 @@
 use mathlib.Core.Bool.{cond}
 use mathlib.Core.List.{List, map}
 use Prim.Native.Nat.{ℕ, _+_, _*_, _/_}
-use lib.Dec.{eqb, ltb}
+use lib.Dec.{ltb}
 use lib.ListN.{take, drop}
 use Rattle.words.specs.Lists.{upTo}
 use Rattle.words.specs.LittleEndian.{byte, two, eight}
 use Rattle.words.specs.Words.{Word}
 use Rattle.meaning.specs.Parts.{rowsEntry, wordsEntry, rowSize, classCount}
 use Rattle.meaning.specs.Parts.{classesStart, startingStart, finalStart, rowsStart}
-use Rattle.meaning.specs.Table.{Class, unused, call, return, internal, Row, Table}
+use Rattle.meaning.specs.Table.{Class, unused, classOf, Row, Table}
 use Rattle.sets.specs.Sets.{members}
 
 -- "8 bytes each": how many rows there are, by the length in the fourth entry
@@ -44,11 +44,7 @@ rowAt file i =
       word = wordOf file i;
     }
 
--- "Each symbol 0 to 255 has a class: 0 unused, 1 call, 2 return, 3 internal"
-abbrev pub classOf : ℕ → Class
-classOf n = cond (eqb n 0) unused (cond (eqb n 1) call (cond (eqb n 2) return internal))
-
--- "Each symbol 0 to 255 has a class": the classes stand from byte 28
+-- "Each symbol 0 to 255 has a class": the class of a symbol stands at its place among the classes
 abbrev pub classAt : List ℕ → ℕ → Class
 classAt file a = cond (ltb a classCount) (classOf (byte file (classesStart + a))) unused
 

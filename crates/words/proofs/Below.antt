@@ -69,15 +69,15 @@ pub below-exact : (n : ℕ) (w : Word) → Exact (AllBelow (2 ^ n) w) (ltb (toge
 below-exact n w = exact-as (together-below n w) (ltb-exact (together 0 w) (2 ^ n))
 
 -- of a part of a word: its numbers are those of the word from its start on
+pub part-at : (w : Word) (s n k : ℕ) → k < n → getD (take n (drop s w)) k 0 ≡ getD w (s + k) 0
+part-at w s n k lt = rw (getD-take, getD-drop)
+
 module _ (w : Word) (s n : ℕ) (fits : s + n ≤ length w) where
   part-length : length (take n (drop s w)) ≡ n
   part-length = simp (length-take, length-drop) (omega arith)
 
-  part-at : (k : ℕ) → k < n → getD (take n (drop s w)) k 0 ≡ getD w (s + k) 0
-  part-at k lt = rw (getD-take, getD-drop)
-
   pub below-part : (m : ℕ) → AllBelow m (take n (drop s w)) ↔ ((k : ℕ) → k < n → getD w (s + k) 0 < m)
   below-part m = (
-    λ b k lt. rw (part-at k lt) at (b .each k (omega (arith, part-length))),
-    λ h. record { each = λ k lt. let l : k < n = omega (arith, part-length) in rw (part-at k l) (h k l) },
+    λ b k lt. rw (part-at w s n k lt) at (b .each k (omega (arith, part-length))),
+    λ h. record { each = λ k lt. let l : k < n = omega (arith, part-length) in rw (part-at w s n k l) (h k l) },
   )

@@ -7,13 +7,12 @@ use native.Mathlib.Omega.{arith}
 use lib.Bits.{bitOr}
 use lib.Dec.{eqb}
 use lib.ListN.{length, getD, take, drop, length-take, List·getD-eq-default}
-use lib.Seq.{getD-take, getD-drop}
 use Rattle.words.specs.Lists.{Exact}
 use Rattle.words.specs.Words.{Word}
 use Rattle.words.specs.Together.{together, AllZero}
 use Rattle.words.proofs.Lists.{below-or}
 use Rattle.words.proofs.Exact.{exact-as, eqb-exact}
-use Rattle.words.proofs.Below.{or-below, together-below}
+use Rattle.words.proofs.Below.{or-below, together-below, part-at}
 
 pub together-zero : (w : Word) → (together 0 w ≡ 0) ↔ AllZero w
 together-zero w = (to, fro)
@@ -43,20 +42,17 @@ zero-at w z k = go (below-or k (length w))
 pub zero-part : (w : Word) (s n : ℕ) → AllZero (take n (drop s w)) ↔ ((k : ℕ) → s ≤ k → k < s + n → getD w k 0 ≡ 0)
 zero-part w s n = (to, fro)
   where
-    at : (k : ℕ) → k < n → getD (take n (drop s w)) k 0 ≡ getD w (s + k) 0
-    at k lt = rw (getD-take, getD-drop)
-
     to : AllZero (take n (drop s w)) → (k : ℕ) → s ≤ k → k < s + n → getD w k 0 ≡ 0
     to z k le lt =
         let e : k ≡ s + (k - s) = omega arith in
-        ap (λ (k : ℕ). getD w k 0) e ∙ sym (at (k - s) (omega arith)) ∙ zero-at (take n (drop s w)) z (k - s)
+        ap (λ (k : ℕ). getD w k 0) e ∙ sym (part-at w s n (k - s) (omega arith)) ∙ zero-at (take n (drop s w)) z (k - s)
 
     fro : ((k : ℕ) → s ≤ k → k < s + n → getD w k 0 ≡ 0) → AllZero (take n (drop s w))
     fro h =
         record {
           each = λ k lt.
               let l : k < n = omega (arith, length-take n (drop s w)) in
-              at k l ∙ h (s + k) (omega arith) (omega arith);
+              part-at w s n k l ∙ h (s + k) (omega arith) (omega arith);
         }
 
 pub zero-in : (w : Word) (s n : ℕ) → AllZero w → AllZero (take n (drop s w))

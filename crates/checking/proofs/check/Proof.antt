@@ -6,14 +6,8 @@ use borrow.Author.Needs.{needs}
 use Rattle.checking.proofs.check.Statement.{statement}
 use Rattle.checking.proofs.check.Tie as tie
 
-head-requires : tie.Need-head-requires
-head-requires c κs = search needs
-
 returns : tie.Need-returns
 returns c = told-bad _ (λ g. denied (c .before .head .ensures) (c .if1 .taken) (g .head))
-
-contents-requires : tie.Need-contents-requires
-contents-requires c κs = search needs
 
 returns-2 : tie.Need-returns-2
 returns-2 c = told-bad _ (λ g. denied (c .before .contents .ensures) (c .if2 .taken) (g .contents))
@@ -59,9 +53,9 @@ pub check-spec : {M : Type 1} → statement M
 check-spec =
     tie.close
     (tie.spec
-    head-requires
+    (λ c κs. search needs)
     returns
-    contents-requires
+    (λ c κs. search needs)
     returns-2
     classes-requires
     returns-3

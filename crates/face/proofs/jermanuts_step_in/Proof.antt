@@ -4,18 +4,6 @@ use borrow.Author.Needs.{needs}
 use Rattle.face.proofs.jermanuts_step_in.Statement.{statement}
 use Rattle.face.proofs.jermanuts_step_in.Tie as tie
 
-step-in-requires : tie.Need-step-in-requires
-step-in-requires c κs = search needs
-
-said-by-step-requires : tie.Need-said-by-step-requires
-said-by-step-requires c κs = search needs
-
-cast-result : tie.Need-cast-result
-cast-result c = search needs
-
-same-length : tie.Need-same-length
-same-length c = search needs
-
 returns : tie.Need-returns
 returns c =
     let said = c .before .said-by-step .ensures in
@@ -24,4 +12,4 @@ returns c =
 
 pub jermanuts-step-in-spec : {M : Type 1} → statement M
 jermanuts-step-in-spec =
-    tie.close (tie.spec step-in-requires said-by-step-requires cast-result same-length returns)
+    tie.close (tie.spec (λ c κs. search needs) (λ c κs. search needs) (λ c. search needs) (λ c. search needs) returns)

@@ -7,27 +7,6 @@ use borrow.Author.Needs.{needs}
 use Rattle.nesting.proofs.after_symbol.Statement.{statement}
 use Rattle.nesting.proofs.after_symbol.Tie as tie
 
-class-of-requires : tie.Need-class-of-requires
-class-of-requires c κs = search needs
-
-enum-told : tie.Need-enum-told
-enum-told c = search needs
-
-enum-told-2 : tie.Need-enum-told-2
-enum-told-2 c = search needs
-
-add-t6 : tie.Need-add-t6
-add-t6 c = search needs
-
-enum-told-3 : tie.Need-enum-told-3
-enum-told-3 c = search needs
-
-sub-t8 : tie.Need-sub-t8
-sub-t8 c = search needs
-
-enum-told-4 : tie.Need-enum-told-4
-enum-told-4 c = search needs
-
 returns : tie.Need-returns
 returns c = rw (← c .before .before .class-of .ensures, c .enum-told .given .1)
 
@@ -53,13 +32,13 @@ pub after-symbol-spec : {M : Type 1} → statement M
 after-symbol-spec =
     tie.close
     (tie.spec
-    class-of-requires
-    enum-told
-    enum-told-2
-    add-t6
-    enum-told-3
-    sub-t8
-    enum-told-4
+    (λ c κs. search needs)
+    (λ c. search needs)
+    (λ c. search needs)
+    (λ c. search needs)
+    (λ c. search needs)
+    (λ c. search needs)
+    (λ c. search needs)
     returns
     returns-2
     returns-3

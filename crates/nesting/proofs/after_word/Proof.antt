@@ -19,31 +19,16 @@ abbrev μ-loop : tie.MeasureT-loop
 loop-holds : tie.Need-loop-holds Inv-loop μ-loop
 loop-holds c = read-start _ _ _
 
-shared-slice-read-after-symbol : tie.Need-shared-slice-read-after-symbol Inv-loop μ-loop
-shared-slice-read-after-symbol c = search needs
-
 after-symbol-requires : tie.Need-after-symbol-requires Inv-loop μ-loop
 after-symbol-requires c κs =
     let r = c .before .before .loop .inv in
     (c .before .before .before .before .before .pre .0, omega arith)
-
-enum-known-next : tie.Need-enum-known-next Inv-loop μ-loop
-enum-known-next c = search needs
-
-enum-told : tie.Need-enum-told Inv-loop μ-loop
-enum-told c = search needs
 
 returns : tie.Need-returns Inv-loop μ-loop
 returns c =
     let read = c .before .before in
     read-broken _ (read .before .before .before .loop .inv) (omega arith)
     (sym (ap levelOf (c .enum-told .given .1)) ∙ read .after-symbol .ensures)
-
-add-i : tie.Need-add-i Inv-loop μ-loop
-add-i c = search needs
-
-loop-less : tie.Need-loop-less Inv-loop μ-loop
-loop-less c = search needs
 
 loop-again : tie.Need-loop-again Inv-loop μ-loop
 loop-again c =
@@ -61,12 +46,12 @@ after-word-spec =
     Inv-loop
     μ-loop
     loop-holds
-    shared-slice-read-after-symbol
+    (λ c. search needs)
     after-symbol-requires
-    enum-known-next
-    enum-told
+    (λ c. search needs)
+    (λ c. search needs)
     returns
-    add-i
-    loop-less
+    (λ c. search needs)
+    (λ c. search needs)
     loop-again
     returns-2)

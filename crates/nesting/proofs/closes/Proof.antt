@@ -7,22 +7,10 @@ use borrow.Author.Needs.{needs}
 use Rattle.nesting.proofs.closes.Statement.{statement}
 use Rattle.nesting.proofs.closes.Tie as tie
 
-enum-told : tie.Need-enum-told
-enum-told c = search needs
-
-enum-known-from : tie.Need-enum-known-from
-enum-known-from c = search needs
-
 after-word-requires : tie.Need-after-word-requires
 after-word-requires c κs =
     let pre = c .before .before .before .before .before .pre in
     (pre .0, omega (arith, pre .1 .few _ (c .before .from .given .1)), pre .2)
-
-enum-told-2 : tie.Need-enum-told-2
-enum-told-2 c = search needs
-
-enum-known-left : tie.Need-enum-known-left
-enum-known-left c = search needs
 
 returns : tie.Need-returns
 returns c = rw (c .enum-told .given .1)
@@ -43,11 +31,11 @@ pub closes-spec : {M : Type 1} → statement M
 closes-spec =
     tie.close
     (tie.spec
-    enum-told
-    enum-known-from
+    (λ c. search needs)
+    (λ c. search needs)
     after-word-requires
-    enum-told-2
-    enum-known-left
+    (λ c. search needs)
+    (λ c. search needs)
     returns
     returns-2
     returns-3)

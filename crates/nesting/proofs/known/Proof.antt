@@ -4,21 +4,6 @@ use borrow.Author.Needs.{needs}
 use Rattle.nesting.proofs.known.Statement.{statement}
 use Rattle.nesting.proofs.known.Tie as tie
 
-class-of-requires : tie.Need-class-of-requires
-class-of-requires c κs = search needs
-
-enum-told : tie.Need-enum-told
-enum-told c = search needs
-
-enum-told-2 : tie.Need-enum-told-2
-enum-told-2 c = search needs
-
-enum-told-3 : tie.Need-enum-told-3
-enum-told-3 c = search needs
-
-enum-told-4 : tie.Need-enum-told-4
-enum-told-4 c = search needs
-
 returns : tie.Need-returns
 returns c = told-known (rw (← c .before .before .class-of .ensures, c .enum-told .given .1))
 
@@ -35,11 +20,11 @@ pub known-spec : {M : Type 1} → statement M
 known-spec =
     tie.close
     (tie.spec
-    class-of-requires
-    enum-told
-    enum-told-2
-    enum-told-3
-    enum-told-4
+    (λ c κs. search needs)
+    (λ c. search needs)
+    (λ c. search needs)
+    (λ c. search needs)
+    (λ c. search needs)
     returns
     returns-2
     returns-3

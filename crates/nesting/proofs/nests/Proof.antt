@@ -5,14 +5,8 @@ use borrow.Author.Needs.{needs}
 use Rattle.nesting.proofs.nests.Statement.{statement}
 use Rattle.nesting.proofs.nests.Tie as tie
 
-words-known-requires : tie.Need-words-known-requires
-words-known-requires c κs = search needs
-
 returns : tie.Need-returns
 returns c = no-exact (nests-not (denied (c .before .words-known .ensures) (c .if1 .taken)))
-
-rows-nest-requires : tie.Need-rows-nest-requires
-rows-nest-requires c κs = search needs
 
 returns-2 : tie.Need-returns-2
 returns-2 c =
@@ -20,4 +14,4 @@ returns-2 c =
     nests-rows (granted (tested .before .words-known .ensures) (tested .if1 .left)) (c .rows-nest .ensures)
 
 pub nests-spec : {M : Type 1} → statement M
-nests-spec = tie.close (tie.spec words-known-requires returns rows-nest-requires returns-2)
+nests-spec = tie.close (tie.spec (λ c κs. search needs) returns (λ c κs. search needs) returns-2)

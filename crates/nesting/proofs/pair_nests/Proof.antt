@@ -8,12 +8,6 @@ use borrow.Author.Needs.{needs}
 use Rattle.nesting.proofs.pair_nests.Statement.{statement}
 use Rattle.nesting.proofs.pair_nests.Tie as tie
 
-row-marker-requires : tie.Need-row-marker-requires
-row-marker-requires c κs = search needs
-
-row-marker-requires-2 : tie.Need-row-marker-requires-2
-row-marker-requires-2 c κs = search needs
-
 returns : tie.Need-returns
 returns c = pair-apart (λ e. omega arith)
 
@@ -21,15 +15,6 @@ row-class-requires : tie.Need-row-class-requires
 row-class-requires c κs =
     let pre = c .before .before .before .before .before .pre in
     (pre .0 .hops .first, pre .0 .hops .first-bytes, pre .1)
-
-enum-told : tie.Need-enum-told
-enum-told c = search needs
-
-enum-told-2 : tie.Need-enum-told-2
-enum-told-2 c = search needs
-
-enum-told-3 : tie.Need-enum-told-3
-enum-told-3 c = search needs
 
 row-word-requires : tie.Need-row-word-requires
 row-word-requires c κs =
@@ -40,9 +25,6 @@ closes-requires : tie.Need-closes-requires
 closes-requires c κs =
     let pre = c .before .before .before .before .before .before .before .before .before .pre in
     (pre .0 .hops .second, opens-few (pre .0), word-short (pre .0 .hops) _ (c .row-word .ensures))
-
-enum-told-4 : tie.Need-enum-told-4
-enum-told-4 c = search needs
 
 returns-2 : tie.Need-returns-2
 returns-2 c = pair-other (sym (c .before .before .row-class .ensures) ∙ ap meant (c .enum-told .given .1)) refl
@@ -65,16 +47,16 @@ pub pair-nests-spec : {M : Type 1} → statement M
 pair-nests-spec =
     tie.close
     (tie.spec
-    row-marker-requires
-    row-marker-requires-2
+    (λ c κs. search needs)
+    (λ c κs. search needs)
     returns
     row-class-requires
-    enum-told
-    enum-told-2
-    enum-told-3
+    (λ c. search needs)
+    (λ c. search needs)
+    (λ c. search needs)
     row-word-requires
     closes-requires
-    enum-told-4
+    (λ c. search needs)
     returns-2
     returns-3
     returns-4

@@ -18,25 +18,13 @@ Inv-loop first second i from n j₀ j =
 abbrev μ-loop : tie.MeasureT-loop
 μ-loop first second i from n j₀ j = n - j
 
-row-count-requires : tie.Need-row-count-requires Inv-loop μ-loop
-row-count-requires c κs = search needs
-
 loop-holds : tie.Need-loop-holds Inv-loop μ-loop
 loop-holds c = (omega arith, λ m l. absurd (omega arith))
-
-pair-nests-requires : tie.Need-pair-nests-requires Inv-loop μ-loop
-pair-nests-requires c κs = search needs
 
 returns : tie.Need-returns Inv-loop μ-loop
 returns c =
     no-exact (λ h.
     denied (c .before .pair-nests .ensures) (c .if1 .taken) (h .each _ (row-among _ _ (omega arith))))
-
-add-j : tie.Need-add-j Inv-loop μ-loop
-add-j c = search needs
-
-loop-less : tie.Need-loop-less Inv-loop μ-loop
-loop-less c = search needs
 
 loop-again : tie.Need-loop-again Inv-loop μ-loop
 loop-again c = (
@@ -54,11 +42,11 @@ pairs-nest-spec =
     (tie.spec
     Inv-loop
     μ-loop
-    row-count-requires
+    (λ c κs. search needs)
     loop-holds
-    pair-nests-requires
+    (λ c κs. search needs)
     returns
-    add-j
-    loop-less
+    (λ c. search needs)
+    (λ c. search needs)
     loop-again
     returns-2)

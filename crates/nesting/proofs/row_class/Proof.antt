@@ -6,20 +6,14 @@ use borrow.Author.Needs.{needs}
 use Rattle.nesting.proofs.row_class.Statement.{statement}
 use Rattle.nesting.proofs.row_class.Tie as tie
 
-row-symbol-requires : tie.Need-row-symbol-requires
-row-symbol-requires c κs = search needs
-
 cast-class-of : tie.Need-cast-class-of
 cast-class-of c =
     let start = c .before .before in
     let small = getD-byte _ (start .pre .1) (rowStart (start .args .i)) in
     omega arith
 
-class-of-requires : tie.Need-class-of-requires
-class-of-requires c κs = search needs
-
 returns : tie.Need-returns
 returns c = cc
 
 pub row-class-spec : {M : Type 1} → statement M
-row-class-spec = tie.close (tie.spec row-symbol-requires cast-class-of class-of-requires returns)
+row-class-spec = tie.close (tie.spec (λ c κs. search needs) cast-class-of (λ c κs. search needs) returns)

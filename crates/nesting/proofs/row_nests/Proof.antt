@@ -13,15 +13,6 @@ row-word-requires c κs =
     let pre = c .before .before .pre in
     good-word _ _ (pre .0 .first) (pre .1)
 
-row-class-requires : tie.Need-row-class-requires
-row-class-requires c κs = search needs
-
-enum-told : tie.Need-enum-told
-enum-told c = search needs
-
-enum-told-2 : tie.Need-enum-told-2
-enum-told-2 c = search needs
-
 after-word-requires : tie.Need-after-word-requires
 after-word-requires c κs =
     let read = c .before .before .before in
@@ -33,12 +24,6 @@ pairs-nest-requires c κs =
     let read = c .before .before .before .before in
     let pre = read .before .before .before .pre in
     record { hops = pre .0; within = pre .1; is = rw (← read .row-word .ensures) (c .after-word .ensures) }
-
-enum-told-3 : tie.Need-enum-told-3
-enum-told-3 c = search needs
-
-enum-told-4 : tie.Need-enum-told-4
-enum-told-4 c = search needs
 
 closes-requires : tie.Need-closes-requires
 closes-requires c κs =
@@ -72,13 +57,13 @@ row-nests-spec =
     tie.close
     (tie.spec
     row-word-requires
-    row-class-requires
-    enum-told
-    enum-told-2
+    (λ c κs. search needs)
+    (λ c. search needs)
+    (λ c. search needs)
     after-word-requires
     pairs-nest-requires
-    enum-told-3
-    enum-told-4
+    (λ c. search needs)
+    (λ c. search needs)
     closes-requires
     returns
     returns-2

@@ -17,25 +17,13 @@ Inv-loop first second n i₀ i =
 abbrev μ-loop : tie.MeasureT-loop
 μ-loop first second n i₀ i = n - i
 
-row-count-requires : tie.Need-row-count-requires Inv-loop μ-loop
-row-count-requires c κs = search needs
-
 loop-holds : tie.Need-loop-holds Inv-loop μ-loop
 loop-holds c = (omega arith, λ m l. absurd (omega arith))
-
-row-nests-requires : tie.Need-row-nests-requires Inv-loop μ-loop
-row-nests-requires c κs = search needs
 
 returns : tie.Need-returns Inv-loop μ-loop
 returns c =
     no-exact (λ h.
     denied (c .before .row-nests .ensures) (c .if1 .taken) (h .each _ (row-among _ _ (omega arith))))
-
-add-i : tie.Need-add-i Inv-loop μ-loop
-add-i c = search needs
-
-loop-less : tie.Need-loop-less Inv-loop μ-loop
-loop-less c = search needs
 
 loop-again : tie.Need-loop-again Inv-loop μ-loop
 loop-again c = (
@@ -53,11 +41,11 @@ rows-nest-spec =
     (tie.spec
     Inv-loop
     μ-loop
-    row-count-requires
+    (λ c κs. search needs)
     loop-holds
-    row-nests-requires
+    (λ c κs. search needs)
     returns
-    add-i
-    loop-less
+    (λ c. search needs)
+    (λ c. search needs)
     loop-again
     returns-2)

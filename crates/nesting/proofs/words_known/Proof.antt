@@ -18,18 +18,12 @@ Inv-loop first second n i₀ i = (i ≤ n) × ((m : ℕ) → m < i → Known (ta
 abbrev μ-loop : tie.MeasureT-loop
 μ-loop first second n i₀ i = n - i
 
-row-count-requires : tie.Need-row-count-requires Inv-loop μ-loop
-row-count-requires c κs = search needs
-
 loop-holds : tie.Need-loop-holds Inv-loop μ-loop
 loop-holds c = (omega arith, λ m l. absurd (omega arith))
 
 row-word-requires : tie.Need-row-word-requires Inv-loop μ-loop
 row-word-requires c κs =
     good-word _ _ (c .before .before .before .before .before .pre .first) (omega arith)
-
-all-known-requires : tie.Need-all-known-requires Inv-loop μ-loop
-all-known-requires c κs = search needs
 
 -- what is looked at is the word of the row
 looked : (c : tie.After-all-known Inv-loop μ-loop) →
@@ -43,12 +37,6 @@ returns : tie.Need-returns Inv-loop μ-loop
 returns c =
     no-exact (λ h.
     denied (looked (c .before)) (c .if1 .taken) (h .each _ (row-among _ _ (omega arith))))
-
-add-i : tie.Need-add-i Inv-loop μ-loop
-add-i c = search needs
-
-loop-less : tie.Need-loop-less Inv-loop μ-loop
-loop-less c = search needs
 
 loop-again : tie.Need-loop-again Inv-loop μ-loop
 loop-again c = (
@@ -66,12 +54,12 @@ words-known-spec =
     (tie.spec
     Inv-loop
     μ-loop
-    row-count-requires
+    (λ c κs. search needs)
     loop-holds
     row-word-requires
-    all-known-requires
+    (λ c κs. search needs)
     returns
-    add-i
-    loop-less
+    (λ c. search needs)
+    (λ c. search needs)
     loop-again
     returns-2)

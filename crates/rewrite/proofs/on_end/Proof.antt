@@ -6,19 +6,13 @@ use borrow.Author.Needs.{needs}
 use Rattle.rewrite.proofs.on_end.Statement.{statement}
 use Rattle.rewrite.proofs.on_end.Tie as tie
 
-put-end-requires : tie.Need-put-end-requires
-put-end-requires c κs = search needs
-
 slice-aggregate-say : tie.Need-slice-aggregate-say
 slice-aggregate-say c =
     let told = c .before .before .before in
     sym (length-take-le _ _ (omega (arith, told .put-end .ensures .put .within, told .put-end .kept .1 .1 .1 .0)))
 
-say-requires : tie.Need-say-requires
-say-requires c κs = search needs
-
 returns : tie.Need-returns
 returns c = search needs
 
 pub on-end-spec : {M : Type 1} → statement M
-on-end-spec = tie.close (tie.spec put-end-requires slice-aggregate-say say-requires returns)
+on-end-spec = tie.close (tie.spec (λ c κs. search needs) slice-aggregate-say (λ c κs. search needs) returns)

@@ -6,23 +6,11 @@ use borrow.Author.Needs.{needs}
 use Rattle.rewrite.proofs.on_input.Statement.{statement}
 use Rattle.rewrite.proofs.on_input.Tie as tie
 
-slice-aggregate-read-some : tie.Need-slice-aggregate-read-some
-slice-aggregate-read-some c = search needs
-
-read-some-requires : tie.Need-read-some-requires
-read-some-requires c κs = search needs
-
-on-end-requires : tie.Need-on-end-requires
-on-end-requires c κs = search needs
-
 returns : tie.Need-returns
 returns c = search needs
 
 returns-2 : tie.Need-returns-2
 returns-2 c = search needs
-
-array-share-prefix-block : tie.Need-array-share-prefix-block
-array-share-prefix-block c = search needs
 
 slice-aggregate-on-symbols : tie.Need-slice-aggregate-on-symbols
 slice-aggregate-on-symbols c = sym (length-take-le _ _ (omega arith))
@@ -37,12 +25,12 @@ pub on-input-spec : {M : Type 1} → statement M
 on-input-spec =
     tie.close
     (tie.spec
-    slice-aggregate-read-some
-    read-some-requires
-    on-end-requires
+    (λ c. search needs)
+    (λ c κs. search needs)
+    (λ c κs. search needs)
     returns
     returns-2
-    array-share-prefix-block
+    (λ c. search needs)
     slice-aggregate-on-symbols
     on-symbols-requires
     returns-3)

@@ -6,14 +6,8 @@ use borrow.Author.Needs.{needs}
 use Rattle.rewrite.proofs.on_symbols.Statement.{statement}
 use Rattle.rewrite.proofs.on_symbols.Tie as tie
 
-put-symbols-requires : tie.Need-put-symbols-requires
-put-symbols-requires c κs = search needs
-
 slice-aggregate-say : tie.Need-slice-aggregate-say
 slice-aggregate-say c = sym (length-take-le _ _ (omega arith))
-
-say-requires : tie.Need-say-requires
-say-requires c κs = search needs
 
 returns : tie.Need-returns
 returns c = search needs
@@ -27,4 +21,4 @@ returns-3 c = search needs
 pub on-symbols-spec : {M : Type 1} → statement M
 on-symbols-spec =
     tie.close
-    (tie.spec put-symbols-requires slice-aggregate-say say-requires returns returns-2 returns-3)
+    (tie.spec (λ c κs. search needs) slice-aggregate-say (λ c κs. search needs) returns returns-2 returns-3)

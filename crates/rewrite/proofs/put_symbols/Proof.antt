@@ -14,29 +14,8 @@ Inv-loop file session₀ symbols place work₀ lent₀ all₀ at₀ i₀ session
 abbrev μ-loop : tie.MeasureT-loop
 μ-loop file session₀ symbols place work₀ lent₀ all₀ at₀ i₀ session work lent all at i = length symbols - i
 
-loop-holds : tie.Need-loop-holds Inv-loop μ-loop
-loop-holds c = search needs
-
-shared-slice-read-put-symbol : tie.Need-shared-slice-read-put-symbol Inv-loop μ-loop
-shared-slice-read-put-symbol c = search needs
-
-add-put-symbol : tie.Need-add-put-symbol Inv-loop μ-loop
-add-put-symbol c = search needs
-
-add-put-symbol-2 : tie.Need-add-put-symbol-2 Inv-loop μ-loop
-add-put-symbol-2 c = search needs
-
-put-symbol-requires : tie.Need-put-symbol-requires Inv-loop μ-loop
-put-symbol-requires c κs = omega arith
-
 returns : tie.Need-returns Inv-loop μ-loop
 returns c = omega (arith, c .before .before .before .before .before .before .put-symbol .ensures .short)
-
-add-i : tie.Need-add-i Inv-loop μ-loop
-add-i c = search needs
-
-loop-less : tie.Need-loop-less Inv-loop μ-loop
-loop-less c = search needs
 
 loop-again : tie.Need-loop-again Inv-loop μ-loop
 loop-again c =
@@ -52,13 +31,13 @@ put-symbols-spec =
     (tie.spec
     Inv-loop
     μ-loop
-    loop-holds
-    shared-slice-read-put-symbol
-    add-put-symbol
-    add-put-symbol-2
-    put-symbol-requires
+    (λ c. search needs)
+    (λ c. search needs)
+    (λ c. search needs)
+    (λ c. search needs)
+    (λ c κs. omega arith)
     returns
-    add-i
-    loop-less
+    (λ c. search needs)
+    (λ c. search needs)
     loop-again
     returns-2)

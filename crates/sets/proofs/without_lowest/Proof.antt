@@ -10,12 +10,9 @@ use Rattle.sets.proofs.without_lowest.Tie as tie
 returns : tie.Need-returns
 returns c = (rw (c .if1 .taken, none), omega arith)
 
-sub-result : tie.Need-sub-result
-sub-result c = search needs
-
 returns-2 : tie.Need-returns-2
 returns-2 c =
     let n = c .before .args .set in (others n (c .before .fits .set .fits) (omega arith), and-le-r n (n - 1))
 
 pub without-lowest-spec : {M : Type 1} → statement M
-without-lowest-spec = tie.close (tie.spec returns sub-result returns-2)
+without-lowest-spec = tie.close (tie.spec returns (λ c. search needs) returns-2)

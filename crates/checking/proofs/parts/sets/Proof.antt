@@ -5,20 +5,8 @@ use borrow.Author.Needs.{needs}
 use Rattle.checking.proofs.parts.sets.Statement.{statement}
 use Rattle.checking.proofs.parts.sets.Tie as tie
 
-shared-slice-read-wide : tie.Need-shared-slice-read-wide
-shared-slice-read-wide c = search needs
-
-wide-requires : tie.Need-wide-requires
-wide-requires c κs = search needs
-
-load-eight-requires : tie.Need-load-eight-requires
-load-eight-requires c κs = search needs
-
 returns : tie.Need-returns
 returns c = no-exact (λ h. omega arith)
-
-within-requires : tie.Need-within-requires
-within-requires c κs = search needs
 
 returns-2 : tie.Need-returns-2
 returns-2 c =
@@ -27,12 +15,6 @@ returns-2 c =
     let states-read = after-starting .before .wide .ensures .0 in
     no-exact
     (λ h. denied (c .before .within .ensures) (c .if2 .taken) (rw (starting-read, states-read) (h .starting)))
-
-load-eight-requires-2 : tie.Need-load-eight-requires-2
-load-eight-requires-2 c κs = search needs
-
-within-requires-2 : tie.Need-within-requires-2
-within-requires-2 c κs = search needs
 
 returns-3 : tie.Need-returns-3
 returns-3 c =
@@ -63,13 +45,13 @@ pub sets-spec : {M : Type 1} → statement M
 sets-spec =
     tie.close
     (tie.spec
-    shared-slice-read-wide
-    wide-requires
-    load-eight-requires
+    (λ c. search needs)
+    (λ c κs. search needs)
+    (λ c κs. search needs)
     returns
-    within-requires
+    (λ c κs. search needs)
     returns-2
-    load-eight-requires-2
-    within-requires-2
+    (λ c κs. search needs)
+    (λ c κs. search needs)
     returns-3
     returns-4)

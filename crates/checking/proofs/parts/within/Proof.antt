@@ -9,11 +9,8 @@ use Rattle.checking.proofs.parts.within.Tie as tie
 returns : tie.Need-returns
 returns c = yes-exact (wide-enough (c .before .args .set) (c .before .args .states) (omega arith) (c .if1 .taken))
 
-shr-result : tie.Need-shr-result
-shr-result c = search needs
-
 returns-2 : tie.Need-returns-2
 returns-2 c = shift-exact (c .before .args .set) (c .before .args .states)
 
 pub within-spec : {M : Type 1} → statement M
-within-spec = tie.close (tie.spec returns shr-result returns-2)
+within-spec = tie.close (tie.spec returns (λ c. search needs) returns-2)

@@ -34,27 +34,6 @@ returns-2 c =
     let next-headed = pre .1 .1 in
     no-exact (λ h. head-more headed next-headed (c .if2 .taken) (h .less))
 
-row-word-requires : tie.Need-row-word-requires
-row-word-requires c κs = search needs
-
-add-row-word : tie.Need-add-row-word
-add-row-word c = search needs
-
-row-word-requires-2 : tie.Need-row-word-requires-2
-row-word-requires-2 c κs = search needs
-
-compare-requires : tie.Need-compare-requires
-compare-requires c κs = search needs
-
-enum-told : tie.Need-enum-told
-enum-told c = search needs
-
-enum-told-2 : tie.Need-enum-told-2
-enum-told-2 c = search needs
-
-enum-told-3 : tie.Need-enum-told-3
-enum-told-3 c = search needs
-
 returns-3 : tie.Need-returns-3
 returns-3 c =
     let after-compare = c .before .before in
@@ -90,13 +69,13 @@ rises-spec =
     (tie.spec
     returns
     returns-2
-    row-word-requires
-    add-row-word
-    row-word-requires-2
-    compare-requires
-    enum-told
-    enum-told-2
-    enum-told-3
+    (λ c κs. search needs)
+    (λ c. search needs)
+    (λ c κs. search needs)
+    (λ c κs. search needs)
+    (λ c. search needs)
+    (λ c. search needs)
+    (λ c. search needs)
     returns-3
     returns-4
     returns-5)

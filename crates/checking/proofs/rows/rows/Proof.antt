@@ -15,40 +15,19 @@ Inv-loop file n last₀ i₀ last i = (n ≡ rowCount file) × Passed file i las
 abbrev μ-loop : tie.MeasureT-loop
 μ-loop file n last₀ i₀ last i = n - i
 
-load-two-requires : tie.Need-load-two-requires Inv-loop μ-loop
-load-two-requires c κs = search needs
-
 returns : tie.Need-returns Inv-loop μ-loop
 returns c = yes-exact (none-passed _ (omega arith))
 
-row-fits-requires : tie.Need-row-fits-requires Inv-loop μ-loop
-row-fits-requires c κs = search needs
-
 returns-2 : tie.Need-returns-2 Inv-loop μ-loop
 returns-2 c = no-exact (λ h. denied (c .before .row-fits .ensures) (c .if2 .taken) (h .fit 0 (omega arith)))
-
-row-head-requires : tie.Need-row-head-requires Inv-loop μ-loop
-row-head-requires c κs = search needs
 
 loop-holds : tie.Need-loop-holds Inv-loop μ-loop
 loop-holds c =
     let fits = granted (c .before .before .row-fits .ensures) (c .before .if2 .left) in
     (omega arith, passed-start _ _ (omega arith) fits (c .row-head .ensures))
 
-add-loop : tie.Need-add-loop Inv-loop μ-loop
-add-loop c = omega arith
-
-add-j : tie.Need-add-j Inv-loop μ-loop
-add-j c = search needs
-
-row-fits-requires-2 : tie.Need-row-fits-requires-2 Inv-loop μ-loop
-row-fits-requires-2 c κs = search needs
-
 returns-3 : tie.Need-returns-3 Inv-loop μ-loop
 returns-3 c = no-exact (λ h. denied (c .before .row-fits2 .ensures) (c .if3 .taken) (h .fit _ (omega arith)))
-
-row-head-requires-2 : tie.Need-row-head-requires-2 Inv-loop μ-loop
-row-head-requires-2 c κs = search needs
 
 rises-requires : tie.Need-rises-requires Inv-loop μ-loop
 rises-requires c κs =
@@ -62,9 +41,6 @@ rises-requires c κs =
 
 returns-4 : tie.Need-returns-4 Inv-loop μ-loop
 returns-4 c = no-exact (λ h. denied (c .before .rises .ensures) (c .if4 .taken) (h .rise _ (omega arith)))
-
-loop-less : tie.Need-loop-less Inv-loop μ-loop
-loop-less c = omega arith
 
 loop-again : tie.Need-loop-again Inv-loop μ-loop
 loop-again c =
@@ -84,19 +60,19 @@ rows-spec =
     (tie.spec
     Inv-loop
     μ-loop
-    load-two-requires
+    (λ c κs. search needs)
     returns
-    row-fits-requires
+    (λ c κs. search needs)
     returns-2
-    row-head-requires
+    (λ c κs. search needs)
     loop-holds
-    add-loop
-    add-j
-    row-fits-requires-2
+    (λ c. omega arith)
+    (λ c. search needs)
+    (λ c κs. search needs)
     returns-3
-    row-head-requires-2
+    (λ c κs. search needs)
     rises-requires
     returns-4
-    loop-less
+    (λ c. omega arith)
     loop-again
     returns-5)

@@ -9,12 +9,6 @@ use Rattle.lines.proofs.Lined.{rest-within, ending-room}
 use Rattle.lines.proofs.telling.put_end.Statement.{statement}
 use Rattle.lines.proofs.telling.put_end.Tie as tie
 
-finish-requires : tie.Need-finish-requires
-finish-requires c κs = search needs
-
-said-by-finish-requires : tie.Need-said-by-finish-requires
-said-by-finish-requires c κs = search needs
-
 slice-reshare-prefix-put-ending : tie.Need-slice-reshare-prefix-put-ending
 slice-reshare-prefix-put-ending c =
     let heard = c .before in
@@ -36,12 +30,6 @@ put-ending-requires c κs =
     ending-room _ rest (length (start .args .out .now)) (omega arith)
     (omega (arith, long, slice-reshare-prefix-put-ending (c .before))) _ _ (omega arith)
 
-same-length : tie.Need-same-length
-same-length c = search needs
-
-same-length-2 : tie.Need-same-length-2
-same-length-2 c = search needs
-
 returns : tie.Need-returns
 returns c =
     let put = c .before .before in
@@ -60,11 +48,11 @@ pub put-end-spec : {M : Type 1} → statement M
 put-end-spec =
     tie.close
     (tie.spec
-    finish-requires
-    said-by-finish-requires
+    (λ c κs. search needs)
+    (λ c κs. search needs)
     slice-reshare-prefix-put-ending
     slice-aggregate-put-ending
     put-ending-requires
-    same-length
-    same-length-2
+    (λ c. search needs)
+    (λ c. search needs)
     returns)

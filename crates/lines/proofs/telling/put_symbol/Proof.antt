@@ -11,15 +11,6 @@ use Rattle.lines.proofs.Lined.{sent-within, line-most, line-room}
 use Rattle.lines.proofs.telling.put_symbol.Statement.{statement}
 use Rattle.lines.proofs.telling.put_symbol.Tie as tie
 
-step-in-requires : tie.Need-step-in-requires
-step-in-requires c κs = search needs
-
-said-by-step-requires : tie.Need-said-by-step-requires
-said-by-step-requires c κs = search needs
-
-depth-requires : tie.Need-depth-requires
-depth-requires c κs = search needs
-
 slice-reshare-prefix-put-line : tie.Need-slice-reshare-prefix-put-line
 slice-reshare-prefix-put-line c =
     let heard = c .before .before .before in
@@ -40,12 +31,6 @@ put-line-requires c κs =
     let long = slice-aggregate-put-line c in
     line-room _ _ _ _ sent (length (start .args .out .now)) (omega arith) (omega arith) (omega arith) (omega arith)
     (omega (arith, long, slice-reshare-prefix-put-line (c .before))) _ _ (omega arith)
-
-same-length : tie.Need-same-length
-same-length c = search needs
-
-same-length-2 : tie.Need-same-length-2
-same-length-2 c = search needs
 
 returns : tie.Need-returns
 returns c =
@@ -78,12 +63,12 @@ pub put-symbol-spec : {M : Type 1} → statement M
 put-symbol-spec =
     tie.close
     (tie.spec
-    step-in-requires
-    said-by-step-requires
-    depth-requires
+    (λ c κs. search needs)
+    (λ c κs. search needs)
+    (λ c κs. search needs)
     slice-reshare-prefix-put-line
     slice-aggregate-put-line
     put-line-requires
-    same-length
-    same-length-2
+    (λ c. search needs)
+    (λ c. search needs)
     returns)

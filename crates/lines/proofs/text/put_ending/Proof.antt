@@ -6,12 +6,6 @@ use Rattle.words.proofs.Puts.{room-front, room-behind, appended-next}
 use Rattle.lines.proofs.text.put_ending.Statement.{statement}
 use Rattle.lines.proofs.text.put_ending.Tie as tie
 
-slice-aggregate-put-bytes : tie.Need-slice-aggregate-put-bytes
-slice-aggregate-put-bytes c = search needs
-
-put-bytes-requires : tie.Need-put-bytes-requires
-put-bytes-requires c κs = search needs
-
 put-field-requires : tie.Need-put-field-requires
 put-field-requires c κs =
     let first = c .before .before .before in
@@ -26,9 +20,6 @@ put-last-requires c κs =
     let start = first .before .before .before .before .before in
     room-behind (appended-next (first .put-bytes .ensures) (second .put-field .ensures)) _ (start .pre)
 
-same-length : tie.Need-same-length
-same-length c = search needs
-
 returns : tie.Need-returns
 returns c =
     let third = c .before .before in
@@ -40,9 +31,9 @@ pub put-ending-spec : {M : Type 1} → statement M
 put-ending-spec =
     tie.close
     (tie.spec
-    slice-aggregate-put-bytes
-    put-bytes-requires
+    (λ c. search needs)
+    (λ c κs. search needs)
     put-field-requires
     put-last-requires
-    same-length
+    (λ c. search needs)
     returns)

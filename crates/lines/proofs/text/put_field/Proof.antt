@@ -16,13 +16,10 @@ put-byte-requires c κs =
     let put = c .before .before .before in
     room-behind (put .put-decimal .ensures) (32 ∷ []) (put .before .before .before .pre)
 
-same-length : tie.Need-same-length
-same-length c = search needs
-
 returns : tie.Need-returns
 returns c =
     let second = c .before .before in
     appended-next (second .before .before .before .before .put-decimal .ensures) (second .put-byte .ensures)
 
 pub put-field-spec : {M : Type 1} → statement M
-put-field-spec = tie.close (tie.spec put-decimal-requires put-byte-requires same-length returns)
+put-field-spec = tie.close (tie.spec put-decimal-requires put-byte-requires (λ c. search needs) returns)

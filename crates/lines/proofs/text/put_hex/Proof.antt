@@ -12,9 +12,6 @@ put-byte-requires c κs =
     let start = c .before .before .before .before in
     omega (arith, ap length (no-bytes (start .args .bytes .now) (c .before .if1 .taken)))
 
-same-length : tie.Need-same-length
-same-length c = search needs
-
 returns : tie.Need-returns
 returns c =
     let put = c .before .before in
@@ -26,9 +23,6 @@ put-pairs-requires c κs =
     let start = c .before .before .before .before in
     omega (arith, ap length (hex-or-dash (start .args .bytes .now) (c .before .if1 .left)))
 
-same-length-2 : tie.Need-same-length-2
-same-length-2 c = search needs
-
 returns-2 : tie.Need-returns-2
 returns-2 c =
     let put = c .before .before in
@@ -38,4 +32,4 @@ returns-2 c =
 pub put-hex-spec : {M : Type 1} → statement M
 put-hex-spec =
     tie.close
-    (tie.spec put-byte-requires same-length returns put-pairs-requires same-length-2 returns-2)
+    (tie.spec put-byte-requires (λ c. search needs) returns put-pairs-requires (λ c. search needs) returns-2)

@@ -16,13 +16,10 @@ put-byte-requires c κs =
     let put = c .before .before .before in
     room-behind (put .put-hex .ensures) (10 ∷ []) (put .before .before .before .before .pre)
 
-same-length : tie.Need-same-length
-same-length c = search needs
-
 returns : tie.Need-returns
 returns c =
     let second = c .before .before in
     appended-next (second .before .before .before .before .put-hex .ensures) (second .put-byte .ensures)
 
 pub put-last-spec : {M : Type 1} → statement M
-put-last-spec = tie.close (tie.spec put-hex-requires put-byte-requires same-length returns)
+put-last-spec = tie.close (tie.spec put-hex-requires put-byte-requires (λ c. search needs) returns)

@@ -45,9 +45,6 @@ put-last-requires c κs =
     let three = appended-next two (third .put-field3 .ensures) in
     room-behind (appended-next three (fourth .put-field4 .ensures)) _ (start .pre)
 
-same-length : tie.Need-same-length
-same-length c = search needs
-
 returns : tie.Need-returns
 returns c =
     let fifth = c .before .before in
@@ -68,5 +65,5 @@ put-line-spec =
     put-field-requires-3
     put-field-requires-4
     put-last-requires
-    same-length
+    (λ c. search needs)
     returns)

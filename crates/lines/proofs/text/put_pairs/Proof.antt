@@ -21,9 +21,6 @@ abbrev μ-loop : tie.MeasureT-loop
 loop-holds : tie.Need-loop-holds Inv-loop μ-loop
 loop-holds c = (omega arith, appended-none _ _ (omega arith))
 
-shared-slice-read-put-pair : tie.Need-shared-slice-read-put-pair Inv-loop μ-loop
-shared-slice-read-put-pair c = search needs
-
 put-pair-requires : tie.Need-put-pair-requires Inv-loop μ-loop
 put-pair-requires c κs =
     let at-loop = c .before .before .before in
@@ -31,12 +28,6 @@ put-pair-requires c κs =
     let bytes = start .args .bytes .now in
     let put = at-loop .loop .inv .1 in
     omega (arith, hex-long bytes, hex-first bytes (at-loop .loop .i) (omega arith), put .next, appended-whole put)
-
-add-i : tie.Need-add-i Inv-loop μ-loop
-add-i c = search needs
-
-loop-less : tie.Need-loop-less Inv-loop μ-loop
-loop-less c = search needs
 
 loop-again : tie.Need-loop-again Inv-loop μ-loop
 loop-again c =
@@ -62,10 +53,10 @@ put-pairs-spec =
     Inv-loop
     μ-loop
     loop-holds
-    shared-slice-read-put-pair
+    (λ c. search needs)
     put-pair-requires
-    add-i
-    loop-less
+    (λ c. search needs)
+    (λ c. search needs)
     loop-again
     same-length
     returns)

@@ -4,7 +4,8 @@ use Prim.Native.Nat.{ℕ, _+_}
 use native.Mathlib.Omega.{arith}
 use Rattle.words.specs.LittleEndian.{byte}
 use Rattle.meaning.specs.Parts.{classesStart}
-use Rattle.table.specs.File.{classOf, classAt, tableOf}
+use Rattle.meaning.specs.Table.{classOf}
+use Rattle.table.specs.File.{classAt, tableOf}
 use Rattle.table.proofs.Marks.{class-at, class-unused, class-call, class-return, class-internal}
 use borrow.Author.Needs.{needs}
 use Rattle.table.proofs.read.class_of.Statement.{statement}
@@ -20,18 +21,6 @@ class-told c =
     let symbol-read = after-symbol .wide .ensures .0 in
     let class-read = c .wide2 .ensures .0 ∙ ap (λ (n : ℕ). byte (args .file .now) (classesStart + n)) symbol-read in
     class-at (args .file .now) (args .symbol) (c .wide2 .result) (omega arith) class-read
-
-wide-requires : tie.Need-wide-requires
-wide-requires c κs = search needs
-
-add-wide : tie.Need-add-wide
-add-wide c = search needs
-
-shared-slice-read-wide : tie.Need-shared-slice-read-wide
-shared-slice-read-wide c = search needs
-
-wide-requires-2 : tie.Need-wide-requires-2
-wide-requires-2 c κs = search needs
 
 returns : tie.Need-returns
 unfolding tableOf
@@ -55,10 +44,10 @@ pub class-of-spec : {M : Type 1} → statement M
 class-of-spec =
     tie.close
     (tie.spec
-    wide-requires
-    add-wide
-    shared-slice-read-wide
-    wide-requires-2
+    (λ c κs. search needs)
+    (λ c. search needs)
+    (λ c. search needs)
+    (λ c κs. search needs)
     returns
     returns-2
     returns-3

@@ -6,12 +6,9 @@ use borrow.Author.Needs.{needs}
 use Rattle.table.proofs.read.final_set.Statement.{statement}
 use Rattle.table.proofs.read.final_set.Tie as tie
 
-load-eight-requires : tie.Need-load-eight-requires
-load-eight-requires c κs = search needs
-
 returns : tie.Need-returns
 unfolding tableOf
 returns c = ap members (c .load-eight .ensures)
 
 pub final-set-spec : {M : Type 1} → statement M
-final-set-spec = tie.close (tie.spec load-eight-requires returns)
+final-set-spec = tie.close (tie.spec (λ c κs. search needs) returns)

@@ -15,28 +15,13 @@ Inv-loop file symbol from low₀ high₀ low high = Between file symbol from low
 abbrev μ-loop : tie.MeasureT-loop
 μ-loop file symbol from low₀ high₀ low high = high - low
 
-row-count-requires : tie.Need-row-count-requires Inv-loop μ-loop
-row-count-requires c κs = search needs
-
 loop-holds : tie.Need-loop-holds Inv-loop μ-loop
 loop-holds c =
     let args = c .before .before .args in
     rw (c .row-count .ensures) (between-all (args .file .now) (args .symbol) (args .from))
 
-sub-middle : tie.Need-sub-middle Inv-loop μ-loop
-sub-middle c = search needs
-
-add-middle : tie.Need-add-middle Inv-loop μ-loop
-add-middle c = omega arith
-
 row-before-requires : tie.Need-row-before-requires Inv-loop μ-loop
 row-before-requires c κs = (c .before .before .before .before .pre, omega arith)
-
-add-low : tie.Need-add-low Inv-loop μ-loop
-add-low c = omega arith
-
-loop-less : tie.Need-loop-less Inv-loop μ-loop
-loop-less c = search needs
 
 loop-again : tie.Need-loop-again Inv-loop μ-loop
 loop-again c =
@@ -44,9 +29,6 @@ loop-again c =
     let at-loop = tested .before .before in
     between-up _ (at-loop .before .before .before .pre .rows) (at-loop .loop .inv) _ (omega arith) (omega arith)
     (tested .row-before .ensures .1 (c .if1 .taken))
-
-loop-less-2 : tie.Need-loop-less-2 Inv-loop μ-loop
-loop-less-2 c = search needs
 
 loop-again-2 : tie.Need-loop-again-2 Inv-loop μ-loop
 loop-again-2 c =
@@ -64,14 +46,14 @@ first-row-spec =
     (tie.spec
     Inv-loop
     μ-loop
-    row-count-requires
+    (λ c κs. search needs)
     loop-holds
-    sub-middle
-    add-middle
+    (λ c. search needs)
+    (λ c. omega arith)
     row-before-requires
-    add-low
-    loop-less
+    (λ c. omega arith)
+    (λ c. search needs)
     loop-again
-    loop-less-2
+    (λ c. search needs)
     loop-again-2
     returns)

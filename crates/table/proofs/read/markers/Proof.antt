@@ -4,15 +4,9 @@ use borrow.Author.Needs.{needs}
 use Rattle.table.proofs.read.markers.Statement.{statement}
 use Rattle.table.proofs.read.markers.Tie as tie
 
-shared-slice-read-wide : tie.Need-shared-slice-read-wide
-shared-slice-read-wide c = search needs
-
-wide-requires : tie.Need-wide-requires
-wide-requires c κs = search needs
-
 returns : tie.Need-returns
 unfolding tableOf
 returns c = c .wide .ensures .0
 
 pub markers-spec : {M : Type 1} → statement M
-markers-spec = tie.close (tie.spec shared-slice-read-wide wide-requires returns)
+markers-spec = tie.close (tie.spec (λ c. search needs) (λ c κs. search needs) returns)

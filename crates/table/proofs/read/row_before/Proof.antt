@@ -5,15 +5,6 @@ use borrow.Author.Needs.{needs}
 use Rattle.table.proofs.read.row_before.Statement.{statement}
 use Rattle.table.proofs.read.row_before.Tie as tie
 
-row-symbol-requires : tie.Need-row-symbol-requires
-row-symbol-requires c κs = search needs
-
-wide-requires : tie.Need-wide-requires
-wide-requires c κs = search needs
-
-wide-requires-2 : tie.Need-wide-requires-2
-wide-requires-2 c κs = search needs
-
 returns : tie.Need-returns
 returns c =
     exact-as (
@@ -21,9 +12,6 @@ returns c =
       λ b. let s = b .symbols in omega arith,
     )
     (ltb-exact (c .before .before .before .row-symbol .result) (c .wide2 .result))
-
-row-from-requires : tie.Need-row-from-requires
-row-from-requires c κs = search needs
 
 returns-2 : tie.Need-returns-2
 returns-2 c =
@@ -36,4 +24,4 @@ returns-2 c =
 pub row-before-spec : {M : Type 1} → statement M
 row-before-spec =
     tie.close
-    (tie.spec row-symbol-requires wide-requires wide-requires-2 returns row-from-requires returns-2)
+    (tie.spec (λ c κs. search needs) (λ c κs. search needs) (λ c κs. search needs) returns (λ c κs. search needs) returns-2)

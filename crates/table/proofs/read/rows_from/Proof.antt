@@ -17,22 +17,10 @@ Inv-loop file symbol from n first end₀ end =
 abbrev μ-loop : tie.MeasureT-loop
 μ-loop file symbol from n first end₀ end = n - end
 
-row-count-requires : tie.Need-row-count-requires Inv-loop μ-loop
-row-count-requires c κs = search needs
-
-first-row-requires : tie.Need-first-row-requires Inv-loop μ-loop
-first-row-requires c κs = search needs
-
 loop-holds : tie.Need-loop-holds Inv-loop μ-loop
 loop-holds c =
     let first = c .first-row .ensures in
     (omega arith, omega (arith, first .within, c .before .row-count .ensures), λ k l. before-next (first .before k l))
-
-row-symbol-requires : tie.Need-row-symbol-requires Inv-loop μ-loop
-row-symbol-requires c κs = search needs
-
-wide-requires : tie.Need-wide-requires Inv-loop μ-loop
-wide-requires c κs = search needs
 
 -- at a row that is not of the symbol from the state
 stopped : (c : tie.In-loop Inv-loop μ-loop)
@@ -58,17 +46,8 @@ stopped c other =
 returns : tie.Need-returns Inv-loop μ-loop
 returns c = stopped (c .before .before .before) (λ s t. omega arith)
 
-row-from-requires : tie.Need-row-from-requires Inv-loop μ-loop
-row-from-requires c κs = search needs
-
 returns-2 : tie.Need-returns-2 Inv-loop μ-loop
 returns-2 c = stopped (c .before .before .before .before .before) (λ s t. omega arith)
-
-add-end : tie.Need-add-end Inv-loop μ-loop
-add-end c = search needs
-
-loop-less : tie.Need-loop-less Inv-loop μ-loop
-loop-less c = search needs
 
 loop-again : tie.Need-loop-again Inv-loop μ-loop
 loop-again c =
@@ -95,15 +74,15 @@ rows-from-spec =
     (tie.spec
     Inv-loop
     μ-loop
-    row-count-requires
-    first-row-requires
+    (λ c κs. search needs)
+    (λ c κs. search needs)
     loop-holds
-    row-symbol-requires
-    wide-requires
+    (λ c κs. search needs)
+    (λ c κs. search needs)
     returns
-    row-from-requires
+    (λ c κs. search needs)
     returns-2
-    add-end
-    loop-less
+    (λ c. search needs)
+    (λ c. search needs)
     loop-again
     returns-3)

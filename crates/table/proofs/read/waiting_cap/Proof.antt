@@ -4,12 +4,9 @@ use borrow.Author.Needs.{needs}
 use Rattle.table.proofs.read.waiting_cap.Statement.{statement}
 use Rattle.table.proofs.read.waiting_cap.Tie as tie
 
-load-two-requires : tie.Need-load-two-requires
-load-two-requires c κs = search needs
-
 returns : tie.Need-returns
 unfolding tableOf
 returns c = c .load-two .ensures .0
 
 pub waiting-cap-spec : {M : Type 1} → statement M
-waiting-cap-spec = tie.close (tie.spec load-two-requires returns)
+waiting-cap-spec = tie.close (tie.spec (λ c κs. search needs) returns)

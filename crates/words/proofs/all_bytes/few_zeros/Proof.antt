@@ -4,50 +4,26 @@ use Rattle.words.proofs.Cleared.{zero-exact}
 use Rattle.words.proofs.all_bytes.few_zeros.Statement.{statement}
 use Rattle.words.proofs.all_bytes.few_zeros.Tie as tie
 
-end-zeros-requires : tie.Need-end-zeros-requires
-end-zeros-requires c κs = search needs
-
 returns : tie.Need-returns
 returns c = search needs
-
-end-zeros-requires-2 : tie.Need-end-zeros-requires-2
-end-zeros-requires-2 c κs = search needs
 
 returns-2 : tie.Need-returns-2
 returns-2 c = search needs
 
-end-zeros-requires-3 : tie.Need-end-zeros-requires-3
-end-zeros-requires-3 c κs = search needs
-
 returns-3 : tie.Need-returns-3
 returns-3 c = search needs
-
-end-zeros-requires-4 : tie.Need-end-zeros-requires-4
-end-zeros-requires-4 c κs = search needs
 
 returns-4 : tie.Need-returns-4
 returns-4 c = search needs
 
-end-zeros-requires-5 : tie.Need-end-zeros-requires-5
-end-zeros-requires-5 c κs = search needs
-
 returns-5 : tie.Need-returns-5
 returns-5 c = search needs
-
-end-zeros-requires-6 : tie.Need-end-zeros-requires-6
-end-zeros-requires-6 c κs = search needs
 
 returns-6 : tie.Need-returns-6
 returns-6 c = search needs
 
-end-zeros-requires-7 : tie.Need-end-zeros-requires-7
-end-zeros-requires-7 c κs = search needs
-
 returns-7 : tie.Need-returns-7
 returns-7 c = search needs
-
-together-requires : tie.Need-together-requires
-together-requires c κs = search needs
 
 returns-8 : tie.Need-returns-8
 returns-8 c = rw (c .together .ensures) (zero-exact _)
@@ -56,19 +32,19 @@ pub few-zeros-spec : {M : Type 1} → statement M
 few-zeros-spec =
     tie.close
     (tie.spec
-    end-zeros-requires
+    (λ c κs. search needs)
     returns
-    end-zeros-requires-2
+    (λ c κs. search needs)
     returns-2
-    end-zeros-requires-3
+    (λ c κs. search needs)
     returns-3
-    end-zeros-requires-4
+    (λ c κs. search needs)
     returns-4
-    end-zeros-requires-5
+    (λ c κs. search needs)
     returns-5
-    end-zeros-requires-6
+    (λ c κs. search needs)
     returns-6
-    end-zeros-requires-7
+    (λ c κs. search needs)
     returns-7
-    together-requires
+    (λ c κs. search needs)
     returns-8)

@@ -17,15 +17,6 @@ abbrev μ-loop : tie.MeasureT-loop
 loop-holds : tie.Need-loop-holds Inv-loop μ-loop
 loop-holds c = passed-start _
 
-shared-slice-read-all : tie.Need-shared-slice-read-all Inv-loop μ-loop
-shared-slice-read-all c = search needs
-
-add-i : tie.Need-add-i Inv-loop μ-loop
-add-i c = search needs
-
-loop-less : tie.Need-loop-less Inv-loop μ-loop
-loop-less c = search needs
-
 loop-again : tie.Need-loop-again Inv-loop μ-loop
 loop-again c = passed-next (c .before .before .loop .inv) (omega arith)
 
@@ -35,4 +26,4 @@ returns c = passed-end (c .before .loop .inv) (omega arith)
 pub together-spec : {M : Type 1} → statement M
 together-spec =
     tie.close
-    (tie.spec Inv-loop μ-loop loop-holds shared-slice-read-all add-i loop-less loop-again returns)
+    (tie.spec Inv-loop μ-loop loop-holds (λ c. search needs) (λ c. search needs) (λ c. search needs) loop-again returns)

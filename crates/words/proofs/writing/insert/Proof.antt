@@ -17,20 +17,11 @@ abbrev μ-loop : tie.MeasureT-loop
 loop-holds : tie.Need-loop-holds Inv-loop μ-loop
 loop-holds c = (search needs, search needs, shifted-none _ _)
 
-sub-to : tie.Need-sub-to Inv-loop μ-loop
-sub-to c = search needs
-
 slice-read-to : tie.Need-slice-read-to Inv-loop μ-loop
 slice-read-to c = omega (arith, c .before .before .loop .inv .2 .whole)
 
 slice-write-to : tie.Need-slice-write-to Inv-loop μ-loop
 slice-write-to c = omega (arith, c .before .before .loop .inv .2 .whole)
-
-sub-i : tie.Need-sub-i Inv-loop μ-loop
-sub-i c = search needs
-
-loop-less : tie.Need-loop-less Inv-loop μ-loop
-loop-less c = search needs
 
 loop-again : tie.Need-loop-again Inv-loop μ-loop
 loop-again c =
@@ -53,11 +44,11 @@ insert-spec =
     Inv-loop
     μ-loop
     loop-holds
-    sub-to
+    (λ c. search needs)
     slice-read-to
     slice-write-to
-    sub-i
-    loop-less
+    (λ c. search needs)
+    (λ c. search needs)
     loop-again
     slice-write-to-2
     same-length
