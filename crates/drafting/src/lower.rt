@@ -2,8 +2,8 @@
 use crate::slots;
 use crate::slots::WORK;
 use places::SIZE;
-use session::levels::LEVELS;
-use session::levels::start;
+use links::levels::LEVELS;
+use links::levels::start;
 ghost use mathlib.Core.Path.{_≡_};
 ghost use Prim.Native.Nat.{_+_, _<_, _≤_};
 ghost use lib.ListN.{set};

@@ -8,7 +8,7 @@ use drafting::slots;
 use drafting::slots::WORK;
 use growing::growth;
 use places::SIZE;
-use session::levels::LEVELS;
+use links::levels::LEVELS;
 ghost use Rattle.words.specs.Words.{Bytes};
 ghost use Rattle.table.specs.Good.{first, Good};
 ghost use Rattle.ending.specs.Finishing.{Ready};

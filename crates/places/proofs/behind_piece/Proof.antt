@@ -1,42 +1,52 @@
--- `places::behind_piece` meets its contract. Assumes nothing.
+use mathlib.Core.Path.{_≡_, refl, sym, ap, _∙_}
+use mathlib.Core.Logic.{inl, inr, ⊎-elim}
+use Prim.Native.Nat.{ℕ, _+_, _-_, _*_, _≤_, _<_}
+use lib.ListN.{length, take, drop, getD, set, length-set}
+use native.Mathlib.Omega.{arith}
+use native.Mathlib.Numerals.{add-one}
 use borrow.Author.Needs.{needs}
-use Rattle.standing.specs.Numbers.{between}
 use Rattle.places.proofs.behind_piece.Statement.{statement}
 use Rattle.places.proofs.behind_piece.Tie as tie
+use Rattle.places.proofs.behind_piece.Reads as reads
+use Rattle.places.proofs.behind_piece.Lts as lts
+use Rattle.links.proofs.blank.Reads as blank-reads
+use Rattle.links.proofs.long.Reads as long-reads
 
+-- src/lib.rt:154:26
 mul-start : tie.Need-mul-start
 mul-start c = search needs
 
+-- src/lib.rt:154:17
 add-start : tie.Need-add-start
 add-start c = search needs
 
-piece-length-requires : tie.Need-piece-length-requires
-piece-length-requires c κs = search needs
+-- src/lib.rt:154:37
+long-requires : tie.Need-long-requires
+long-requires c κs = search needs
 
+-- src/lib.rt:154:17
 add-start-2 : tie.Need-add-start-2
 add-start-2 c = search needs
 
-add-result : tie.Need-add-result
-add-result c = search needs
+-- src/lib.rt:155:44
+add-blank : tie.Need-add-blank
+add-blank c = search needs
 
-mul-result : tie.Need-mul-result
-mul-result c = search needs
+-- src/lib.rt:155:36
+mul-blank : tie.Need-mul-blank
+mul-blank c = search needs
 
-add-result-2 : tie.Need-add-result-2
-add-result-2 c = search needs
+-- src/lib.rt:155:27
+add-blank-2 : tie.Need-add-blank-2
+add-blank-2 c = search needs
 
-sub-result : tie.Need-sub-result
-sub-result c = search needs
+-- src/lib.rt:155:5
+blank-requires : tie.Need-blank-requires
+blank-requires c κs = search needs
 
-part-result-start : tie.Need-part-result-start
-part-result-start c = search needs
-
-part-result-end : tie.Need-part-result-end
-part-result-end c = search needs
-
+-- src/lib.rt:150:1
 returns : tie.Need-returns
-unfolding between
-returns c = cc
+returns c = rw (c .before .long .ensures .0) at (c .blank .ensures)
 
 pub behind-piece-spec : {M : Type 1} → statement M
 behind-piece-spec =
@@ -44,12 +54,10 @@ behind-piece-spec =
     (tie.spec
     mul-start
     add-start
-    piece-length-requires
+    long-requires
     add-start-2
-    add-result
-    mul-result
-    add-result-2
-    sub-result
-    part-result-start
-    part-result-end
+    add-blank
+    mul-blank
+    add-blank-2
+    blank-requires
     returns)

@@ -1,0 +1,4 @@
+-- What the functions of a head rest on, and what follows of what they leave.
+pub mod Weighed
+pub mod Levelled
+pub mod Linked
