@@ -9,7 +9,7 @@ ghost use mathlib.Core.Path.{_≡_};
 ghost use mathlib.Core.Logic.{_⊎_};
 ghost use mathlib.Core.List.{_++_};
 ghost use Prim.Native.Nat.{_+_, _≤_, _<_};
-ghost use lib.ListN.{length};
+ghost use lib.ListN.{length, take, drop};
 ghost use Rattle.standing.specs.Numbers.{seatFrom, footFrom, keyFrom};
 ghost use Rattle.drafting.specs.Drafts.{slotStart, draftRoom, lengthIn, pieceIn, slotOf, Filled, Written};
 ghost use Rattle.links.specs.Heads.{Read};
