@@ -17,7 +17,7 @@ use Rattle.standing.specs.Soundly.{piecesOn}
 use Rattle.standing.specs.Bytes.{countOf, linkAt, entryAt, noEntry}
 use Rattle.standing.specs.Numbers.{startOf, levelOf}
 use Rattle.standing.proofs.Encoded.{getD-zeros}
-use Rattle.session.proofs.Levelled.{foot-level, seat-level, At, set-at}
+use Rattle.links.proofs.Levelled.{foot-level, seat-level, At, set-at}
 use Rattle.drafting.specs.Drafts.{slotStart, draftIn, slotOf, stacked, draftsOf, Drafts, AllAt, OneMore}
 use Rattle.drafting.specs.Drafts.{levelIn, Ranked, footOf, seatOf, OneLevel, PicksFoot, FirstOn, CommonOn}
 use Rattle.drafting.specs.Drafts.{PushedOne, LevelsRise}

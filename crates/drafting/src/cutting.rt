@@ -1,8 +1,8 @@
 // Cutting: by how much each draft is cut in front, and the longest output that waits then.
 use crate::slots;
 use crate::slots::WORK;
-use session::levels::LEVELS;
-use session::levels::start;
+use links::levels::LEVELS;
+use links::levels::start;
 use words::larger;
 ghost use mathlib.Core.Path.{_≡_};
 ghost use Prim.Native.Nat.{_+_, _<_, _≤_};

@@ -1,9 +1,9 @@
 // Shaking: of the links below the new depth, those that something stands on are drafted over the new ones.
 use crate::slots;
 use crate::slots::WORK;
+use links::levels::LEVELS;
+use links::levels::start;
 use places::SIZE;
-use session::levels::LEVELS;
-use session::levels::start;
 ghost use mathlib.Core.Path.{_≡_};
 ghost use Prim.Native.Nat.{_+_, _<_, _≤_};
 ghost use lib.ListN.{set};

@@ -1,8 +1,8 @@
 // Settling drafts: pieces get what those above have in common, and are then cut by what is beside them in common.
 use crate::slots;
 use crate::slots::WORK;
-use session::levels::LEVELS;
-use session::levels::start;
+use links::levels::LEVELS;
+use links::levels::start;
 use words::common_length;
 ghost use mathlib.Core.Path.{_≡_};
 ghost use Prim.Native.Nat.{_+_, _≤_, _<_};

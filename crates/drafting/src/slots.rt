@@ -1,7 +1,8 @@
 // The slots that a step drafts links in. Nobody else counts their bytes.
-use places::links::foot_from;
-use places::links::key_from;
-use places::links::seat_from;
+use crate::five::foot_from;
+use crate::five::key_from;
+use crate::five::seat_from;
+use links::Link;
 use words::load_two;
 use words::wide;
 ghost use mathlib.Core.Path.{_≡_};
@@ -11,6 +12,7 @@ ghost use Prim.Native.Nat.{_+_, _≤_, _<_};
 ghost use lib.ListN.{length, take, drop};
 ghost use Rattle.standing.specs.Numbers.{seatFrom, footFrom, keyFrom};
 ghost use Rattle.drafting.specs.Drafts.{slotStart, draftRoom, lengthIn, pieceIn, slotOf, Filled, Written};
+ghost use Rattle.links.specs.Heads.{Read};
 ghost use Rattle.drafting.specs.Drafts.{headBytes, Holds};
 
 // How many bytes a slot has, where its length and its piece start, and how many bytes there are.
@@ -57,14 +59,19 @@ pub fn length(work: &[u8; WORK], s: usize) -> usize
     load_two(&work[..], WIDTH * s + LENGTH)
 }
 
-// The five bytes of a drafted link, and a drafted piece, as parts of the lent room.
-pub fn link(work: &[u8; WORK], s: usize) -> &[u8]
+// A drafted link, and a drafted piece as a part of the lent room.
+pub fn link(work: &[u8; WORK], s: usize) -> Link
     requires { ⌜ s < 64 ⌝ }
-    ensures { λ r. ⌜ now r ≡ take 5 (drop (slotStart s) (now (work .entry))) ⌝ }
+    ensures { λ r. ⌜ Read (now (work .entry)) (slotStart s) r ⌝ }
 {
-    let start = WIDTH * s;
-    let all = &work[..];
-    &all[start..start + LENGTH]
+    let at = WIDTH * s;
+    Link {
+        level: work[at],
+        state: work[at + 1],
+        marker: work[at + 2],
+        state_below: work[at + 3],
+        marker_below: work[at + 4],
+    }
 }
 
 pub fn piece(work: &[u8; WORK], s: usize) -> &[u8]

@@ -14,7 +14,10 @@ use Rattle.standing.specs.Sessions.{Entry}
 use Rattle.standing.specs.Bytes.{linkStart, lengthStart, pieceStart, pieceRoom, size, countOf, linkFrom, Kept, noEntry}
 use Rattle.standing.specs.Bytes.{linkBytes, bytesOf}
 use Rattle.standing.specs.Numbers.{Tidy, Ready, Holds, Same, Put}
-use Rattle.standing.proofs.Held.{held-same, same-all, same-then, none-kept, held-all, five-read}
+use Rattle.standing.proofs.Held.{put-others, held-same, same-all, same-then, none-kept, held-all}
+use Rattle.links.specs.declared.Link.{Link}
+use Rattle.links.specs.Heads.{fiveOf, Read}
+use Rattle.links.proofs.Linked.{read-bytes}
 use Rattle.drafting.specs.Drafts.{slotStart, draftRoom, lengthIn, pieceIn, slotOf, stacked, Drafts}
 use Rattle.engine.specs.Writing.{Cuts, cutSession, PutFrom, Written}
 use Rattle.drafting.specs.Cutting.{cutDraft, cutDrafts}
@@ -74,9 +77,8 @@ module _ {work order cuts : List ℕ} {n p s : ℕ} (c : Comes work order cuts n
   cut-short : lengthIn work s - cut ≤ pieceRoom
   cut-short = rw (c .slot) (c .all .short i inside)
 
-  five-here : take 5 (drop (slotStart s) work) ≡ linkBytes (linkFrom work (slotStart s))
-  five-here =
-      five-read work (slotStart s) (omega (arith, drafts .whole, slot-range)) (rw (c .slot) (drafts .below i inside))
+  five-here : {l : Link} → Read work (slotStart s) l → fiveOf l ≡ linkBytes (linkFrom work (slotStart s))
+  five-here = read-bytes (rw (c .slot) (drafts .below i inside))
 
   module _ {all : Word} (is : all ≡ pieceIn work s) where
     abbrev left : Word
@@ -94,26 +96,22 @@ module _ {work order cuts : List ℕ} {n p s : ℕ} (c : Comes work order cuts n
     left-is : left ≡ drop cut (pieceIn work s)
     left-is = take-all (length all - cut) (drop cut all) (omega (arith, length-drop cut all)) ∙ ap (drop cut) is
 
-    module _ {five bytes : List ℕ} (link : five ≡ take 5 (drop (slotStart s) work)) where
-      pub draft-ready : p < 64 → Tidy bytes p → Ready bytes p five left
-      draft-ready range tidy =
-          record {
-            range = range;
-            all = rw link
-                (length-take-le 5 (drop (slotStart s) work)
-                (omega (arith, length-drop (slotStart s) work, drafts .whole, slot-range)));
-            short = rw (left-is, ← is) (omega (arith, length-drop cut all, long, cut-short));
-            tidy = tidy;
-          }
+    pub draft-ready : {bytes : List ℕ} → p < 64 → Tidy bytes p → Ready bytes p left
+    draft-ready range tidy =
+        record {
+          range = range;
+          short = rw (left-is, ← is) (omega (arith, length-drop cut all, long, cut-short));
+          tidy = tidy;
+        }
 
-      pub put-draft : {bytes′ : List ℕ} → Put bytes p five left bytes′
-          → PutFrom (cutDrafts work order cuts n) bytes p bytes′
-      put-draft {bytes′} h =
-          let e : getD (cutDrafts work order cuts n) p noEntry ≡ cutDraft work order cuts i =
-          getD-stacked (cutDraft work order cuts) n p noEntry (c .before) in
-          let f : five ≡ linkBytes (linkFrom work (slotStart s)) = link ∙ five-here in
-          subst (λ (e : Entry). Put bytes p (linkBytes (e .link)) (e .piece) bytes′) (sym e)
-          (rw (c .slot) at (rw (f, left-is) at h))
+    pub put-draft : {bytes bytes′ : List ℕ} {l : Link} → Read work (slotStart s) l → Put bytes p (fiveOf l) left bytes′
+        → PutFrom (cutDrafts work order cuts n) bytes p bytes′
+    put-draft {bytes} {bytes′} {l} r h =
+        let e : getD (cutDrafts work order cuts n) p noEntry ≡ cutDraft work order cuts i =
+        getD-stacked (cutDraft work order cuts) n p noEntry (c .before) in
+        let f : fiveOf l ≡ linkBytes (linkFrom work (slotStart s)) = five-here r in
+        subst (λ (e : Entry). Put bytes p (linkBytes (e .link)) (e .piece) bytes′) (sym e)
+        (rw (c .slot) at (rw (f, left-is) at h))
 
 -- the places one after the other
 pub written-none : (E : List Entry) (bytes : List ℕ) → Written E bytes 0 bytes
@@ -126,12 +124,12 @@ written-more {E} {bytes} {bytes′} {bytes″} {p} w range h =
     record {
       whole = h .whole ∙ w .whole;
       done = λ i lt. go i (below-or i p) lt;
-      rest = λ i le lt. same-then (w .rest i (omega arith) lt) (h .others i lt (λ e. omega arith));
+      rest = λ i le lt. same-then (w .rest i (omega arith) lt) (put-others h range i lt (λ e. omega arith));
     }
   where
     go : (i : ℕ) → (i < p) ⊎ (p ≤ i) → i < p + 1
         → Holds bytes″ i (linkBytes (getD E i noEntry .link)) (getD E i noEntry .piece)
-    go i (inl l) lt = held-same (h .others i (omega arith) (λ e. omega arith)) (w .done i l)
+    go i (inl l) lt = held-same (put-others h range i (omega arith) (λ e. omega arith)) (w .done i l)
     go i (inr g) lt = let e : i ≡ p = omega arith in rw e (h .here)
 
 -- all places, with the depth and the count

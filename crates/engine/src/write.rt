@@ -27,7 +27,7 @@ pub fn write(
 {
     let end = larger(n, places::count(session));
     write_places(session, work, order, n, cuts, end);
-    places::put_head(session, depth, n);
+    links::set_head(&mut session[..], depth, n);
 }
 
 // The places below `end`, one after the other.

@@ -1,3 +1,3 @@
 -- What follows of what the calls promise, and what the functions inside rest on.
-pub mod Levelled
+pub mod Rising
 pub mod Began

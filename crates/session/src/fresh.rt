@@ -1,6 +1,5 @@
 // Beginning: a session for a table, at depth 0 in each starting state, with nothing waiting.
 use places::SIZE;
-use places::add_start;
 use places::clear;
 ghost use mathlib.Core.Path.{_≡_};
 ghost use Rattle.sets.specs.Sets.{members};
@@ -39,7 +38,7 @@ fn start(session: &mut [u8; SIZE], set: u64)
     while rest != 0 {
         let state = sets::lowest(rest);
         rest = sets::without_lowest(rest);
-        add_start(session, i, state as u8);
+        links::add_start(&mut session[..], i, state as u8);
         i += 1;
     }
 }

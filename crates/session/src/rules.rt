@@ -1,16 +1,18 @@
 // The rules of soundness that look at links: each says whether the session keeps it.
-use crate::levels::LEVELS;
-use crate::levels::start;
-use places::SIZE;
+use links::levels::LEVELS;
+use links::levels::PAIRS;
+use links::levels::first_with;
+use links::levels::start;
 ghost use mathlib.Core.Path.{_≡_};
 ghost use mathlib.Core.Logic.{_↔_};
 ghost use Prim.Native.Nat.{_≤_, _<_};
+ghost use lib.ListN.{length};
 ghost use Rattle.words.specs.Lists.{Exact};
 ghost use Rattle.table.specs.File.{tableOf};
 ghost use Rattle.table.specs.Good.{first, Good};
-ghost use Rattle.standing.specs.Bytes.{countOf};
+ghost use Rattle.standing.specs.Bytes.{size, countOf};
 ghost use Rattle.standing.specs.Numbers.{LinkFits, Links, RootedAt, Agrees, Common, CarriesAt, Grouped};
-ghost use Rattle.standing.specs.Numbers.{levelOf, Levelled};
+ghost use Rattle.standing.specs.Numbers.{headSize, levelOf, Levelled};
 
 // "marker 0 exactly at level 0"
 fn mark_fits(level: usize, marker: usize) -> bool
@@ -23,22 +25,22 @@ fn mark_fits(level: usize, marker: usize) -> bool
 }
 
 // Whether a link keeps the rules that look at no other.
-fn link_fits(file: &[u8], session: &[u8; SIZE], i: usize) -> bool
-    requires { ⌜ (Good first (now file)) × (i < 64) ⌝ }
+fn link_fits(file: &[u8], session: &[u8], i: usize) -> bool
+    requires { ⌜ (Good first (now file)) × (headSize ≤ length (now session)) × (i < 64) ⌝ }
     ensures { λ r. ⌜ Exact (LinkFits (tableOf (now (file .entry))) (now (session .entry)) i) r ⌝ }
 {
-    let level = places::level(session, i);
-    if places::depth(session) < level {
+    let level = links::level(session, i);
+    if links::depth(session) < level {
         return false;
     }
-    if table::states(file) <= places::state(session, i) {
+    if table::states(file) <= links::state(session, i) {
         return false;
     }
-    let marker = places::marker(session, i);
+    let marker = links::marker(session, i);
     if table::markers(file) < marker {
         return false;
     }
-    if 512 < places::piece_length(session, i) {
+    if 512 < links::long(session, i) {
         return false;
     }
     if !mark_fits(level, marker) {
@@ -47,22 +49,22 @@ fn link_fits(file: &[u8], session: &[u8; SIZE], i: usize) -> bool
     if 0 < level {
         return true;
     }
-    places::foot(session, i) == 0
+    links::foot(session, i) == 0
 }
 
 // Whether all links do, and rise: each number is at least one more than that of the link before it.
-pub fn links(file: &[u8], session: &[u8; SIZE]) -> bool
-    requires { ⌜ (Good first (now file)) × (countOf (now session) ≤ 64) ⌝ }
+pub fn links(file: &[u8], session: &[u8]) -> bool
+    requires { ⌜ (Good first (now file)) × (headSize ≤ length (now session)) × (countOf (now session) ≤ 64) ⌝ }
     ensures { λ r. ⌜ Exact (Links (tableOf (now (file .entry))) (now (session .entry))) r ⌝ }
 {
-    let n = places::count(session);
+    let n = links::count(session);
     let mut least = 0;
     let mut i = 0;
     while i < n {
         if !link_fits(file, session, i) {
             return false;
         }
-        let key = places::key(session, i);
+        let key = links::key(session, i);
         if key < least {
             return false;
         }
@@ -73,24 +75,15 @@ pub fn links(file: &[u8], session: &[u8; SIZE]) -> bool
 }
 
 // Whether a link is at level 0 or stands on one that is there, which is of the level before its own.
-fn rooted(session: &[u8; SIZE], starts: &[u8; LEVELS], i: usize) -> bool
+fn rooted(session: &[u8], starts: &[u8; LEVELS], i: usize) -> bool
     requires { ⌜ Levelled (now session) (now starts) × (i < countOf (now session)) ⌝ }
     ensures { λ r. ⌜ Exact (RootedAt (now (session .entry)) i) r ⌝ }
 {
-    let foot = places::foot(session, i);
+    let foot = links::foot(session, i);
     if foot == 0 {
         return true;
     }
-    let level = foot / 65536;
-    let end = start(starts, level);
-    let mut j = start(starts, level - 1);
-    while j < end {
-        if places::seat(session, j) == foot {
-            return true;
-        }
-        j += 1;
-    }
-    false
+    first_with(session, starts, foot) < links::count(session)
 }
 
 // Whether a piece begins with the byte that all before it begin with; `first` is 256 where there are none before it.
@@ -107,16 +100,16 @@ fn agrees(first: usize, head: usize) -> bool
 }
 
 // Whether the pieces on the links with one foot, which are of one level, have no common first byte.
-fn apart(session: &[u8; SIZE], starts: &[u8; LEVELS], foot: usize) -> bool
-    requires { ⌜ Levelled (now session) (now starts) × (levelOf foot < 34) ⌝ }
+fn apart(session: &[u8], starts: &[u8; LEVELS], foot: usize) -> bool
+    requires { ⌜ (length (now session) ≡ size) × Levelled (now session) (now starts) × (levelOf foot < 34) ⌝ }
     ensures { λ r. ⌜ Exact (Common (now (session .entry)) foot → ⊥) r ⌝ }
 {
-    let level = foot / 65536;
+    let level = foot / PAIRS;
     let end = start(starts, level + 1);
     let mut first = 256;
     let mut j = start(starts, level);
     while j < end {
-        if places::foot(session, j) == foot {
+        if links::foot(session, j) == foot {
             let head = places::head(session, j);
             if !agrees(first, head) {
                 return true;
@@ -129,25 +122,26 @@ fn apart(session: &[u8; SIZE], starts: &[u8; LEVELS], foot: usize) -> bool
 }
 
 // Whether a link is at the depth, or those that stand on it have no common first byte, and there are some.
-fn carries(session: &[u8; SIZE], starts: &[u8; LEVELS], i: usize) -> bool
-    requires { ⌜ Levelled (now session) (now starts) × (i < countOf (now session)) ⌝ }
+fn carries(session: &[u8], starts: &[u8; LEVELS], i: usize) -> bool
+    requires { ⌜ (length (now session) ≡ size) × Levelled (now session) (now starts) ⌝ }
+    requires { ⌜ i < countOf (now session) ⌝ }
     ensures { λ r. ⌜ Exact (CarriesAt (now (session .entry)) i) r ⌝ }
 {
-    if places::level(session, i) == places::depth(session) {
+    if links::level(session, i) == links::depth(session) {
         return true;
     }
-    apart(session, starts, places::seat(session, i))
+    apart(session, starts, links::seat(session, i))
 }
 
 // Whether every link lies on a full trail, and no pieces that could have been moved down were left.
-pub fn groups(session: &[u8; SIZE], starts: &[u8; LEVELS]) -> bool
-    requires { ⌜ Levelled (now session) (now starts) ⌝ }
+pub fn groups(session: &[u8], starts: &[u8; LEVELS]) -> bool
+    requires { ⌜ (length (now session) ≡ size) × Levelled (now session) (now starts) ⌝ }
     ensures { λ r. ⌜ Exact (Grouped (now (session .entry))) r ⌝ }
 {
     if !apart(session, starts, 0) {
         return false;
     }
-    let n = places::count(session);
+    let n = links::count(session);
     let mut i = 0;
     while i < n {
         if !rooted(session, starts, i) {

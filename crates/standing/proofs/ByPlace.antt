@@ -125,15 +125,19 @@ module _ (T : Table) (bytes : List ℕ) (whole : length bytes ≡ size) (small :
         (linkAt bytes (o .0) .here .state, linkAt bytes (o .0) .here .marker, as-at (o .0) _ y (o .1) e (o .3)),
   )
 
+  foot-lowest : (i : ℕ) → i < countOf bytes
+      → (footAt bytes i ≡ 0) ↔ (linkAt bytes i ≡ linkOf (ground (linkAt bytes i .here .state)))
+  foot-lowest i l = foot-bottom bytes i (links .fit i l .ranges .zero .1) (links .fit i l .below)
+
   on-ground : (y : Word) → ((q : ℕ) × Has (S bytes) (linkOf (ground q)) y) ↔ On 0 y
   on-ground y = (
     λ h.
         let o = at-has bytes (linkOf (ground (h .0))) y (h .1) in
         let e = ap (λ (e : Entry). e .link) (o .2) in
         let f = e ∙ sym (ap (λ (l : Link). linkOf (ground (l .here .state))) e) in
-        (o .0, o .1, foot-bottom bytes (o .0) (links .fit (o .0) (o .1)) .1 f, ap (λ (e : Entry). e .piece) (o .2)),
+        (o .0, o .1, foot-lowest (o .0) (o .1) .1 f, ap (λ (e : Entry). e .piece) (o .2)),
     λ o.
-        let e = foot-bottom bytes (o .0) (links .fit (o .0) (o .1)) .0 (o .2) in
+        let e = foot-lowest (o .0) (o .1) .0 (o .2) in
         (linkAt bytes (o .0) .here .state, as-at (o .0) _ y (o .1) e (o .3)),
   )
 
@@ -162,14 +166,14 @@ module _ (T : Table) (bytes : List ℕ) (whole : length bytes ≡ size) (small :
       to : RootedAt bytes i
           → (k ≡ linkOf (ground (k .here .state)))
           ⊎ ((f : Entry) × (f among S bytes .entries) × (k ≡ on (k .here .state) (k .here .marker) (f .link)))
-      to (inl e) = inl (foot-bottom bytes i (links .fit i l) .0 e)
+      to (inl e) = inl (foot-lowest i l .0 e)
       to (inr f) =
           inr (entryAt bytes (f .0), has-at bytes (f .0) (f .1), foot-stands bytes small (f .0) i .0 (sym (f .2)))
 
       fro : (k ≡ linkOf (ground (k .here .state)))
           ⊎ ((f : Entry) × (f among S bytes .entries) × (k ≡ on (k .here .state) (k .here .marker) (f .link)))
           → RootedAt bytes i
-      fro (inl e) = inl (foot-bottom bytes i (links .fit i l) .1 e)
+      fro (inl e) = inl (foot-lowest i l .1 e)
       fro (inr f) =
           let o = at-has bytes (f .0 .link) (f .0 .piece) (f .1) in
           let e = f .2 ∙ ap (λ (e : Entry). on (k .here .state) (k .here .marker) (e .link)) (sym (o .2)) in

@@ -4,17 +4,17 @@ use mathlib.Core.Bool.{Bool}
 use mathlib.Core.List.{List}
 use Prim.Native.Nat.{ℕ, _+_, _-_, _<_, _≤_}
 use native.Mathlib.Omega.{arith}
+use lib.ListN.{take, drop}
 use Rattle.words.specs.Lists.{Exact}
 use Rattle.words.specs.Together.{AllZero}
 use Rattle.words.proofs.Exact.{exact-as}
 use Rattle.words.proofs.Cleared.{zero-part}
 use Rattle.words.specs.LittleEndian.{byte}
 use Rattle.standing.specs.Bytes.{lengthStart, pieceStart, size, countOf, Unused}
-use Rattle.standing.specs.Numbers.{linksEnd, lengthsEnd, pieceEnd, piecesEnd, between, Clear, ClearBehind}
+use Rattle.standing.specs.Numbers.{linksEnd, lengthsEnd, pieceEnd, piecesEnd, Clear, ClearBehind}
 
-pub clear-exact : {bytes x : List ℕ} {s e : ℕ} {b : Bool} → x ≡ between s e bytes → Exact (AllZero x) b
+pub clear-exact : {bytes x : List ℕ} {s e : ℕ} {b : Bool} → x ≡ take (e - s) (drop s bytes) → Exact (AllZero x) b
     → Exact (Clear bytes s e) b
-unfolding between
 clear-exact {bytes} {x} {s} {e} h t =
     exact-as (
       λ z. record { zero = λ k g l. zero-part bytes s (e - s) .0 z k g (omega arith) },

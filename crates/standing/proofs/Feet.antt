@@ -10,11 +10,10 @@ use borrow.Author.Tests.{eq-eqb, ne-eqb}
 use Rattle.words.specs.Words.{Bytes}
 use Rattle.words.proofs.Lists.{getD-byte}
 use Rattle.words.proofs.Exact.{exact-as, exact-same, eqb-exact}
-use Rattle.meaning.specs.Table.{Table}
 use Rattle.meaning.specs.Trails.{Pair, ground, Link, on, linkOf}
 use Rattle.standing.specs.Sessions.{onBottom, standsOn}
-use Rattle.standing.specs.Bytes.{linkStart, pair, belowAt, linkAt}
-use Rattle.standing.specs.Numbers.{seatAt, footAt, LinkFits}
+use Rattle.standing.specs.Bytes.{linkStart, pair, belowAt, linkAt, NoneBelow}
+use Rattle.standing.specs.Numbers.{seatAt, footAt}
 use Rattle.standing.proofs.Tests.{bottom-exact, stands-exact}
 
 abbrev Stands : List ℕ → ℕ → ℕ → Type 0
@@ -32,21 +31,22 @@ module _ (bytes : List ℕ) where
   pub none-below : (j : ℕ) → linkAt bytes j .level ≡ 0 → linkAt bytes j .below ≡ none
   none-below j e = rw (eq-eqb (linkAt bytes j .level) 0 e)
 
-  module _ {T : Table} (j : ℕ) (fits : LinkFits T bytes j) where
+  module _ (j : ℕ) (plain : linkAt bytes j .level ≡ 0 → linkAt bytes j .here .marker ≡ 0)
+      (below : NoneBelow bytes (linkStart j)) where
     pub foot-bottom : (footAt bytes j ≡ 0) ↔ Lowest bytes j
     foot-bottom = (to, fro)
       where
         to : footAt bytes j ≡ 0 → Lowest bytes j
         to h =
             let e : linkAt bytes j .level ≡ 0 = omega arith in
-            let m : linkAt bytes j .here .marker ≡ 0 = fits .ranges .zero .1 e in
+            let m : linkAt bytes j .here .marker ≡ 0 = plain e in
             let b = none-below j e in
             λ k. record { level = e k; here = pair (linkAt bytes j .here .state) (m k); below = b k }
 
         fro : Lowest bytes j → footAt bytes j ≡ 0
         fro h =
             let e : linkAt bytes j .level ≡ 0 = ap (λ (l : Link). l .level) h in
-            let b = fits .below e in
+            let b = below e in
             omega (arith, b .0, b .1)
 
     pub bottom-foot : onBottom (linkAt bytes j) ≡ eqb (footAt bytes j) 0

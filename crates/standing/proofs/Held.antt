@@ -1,179 +1,86 @@
 -- What is held at the places of links and pieces: written there, kept beside it, and all together. Assumes nothing.
-use mathlib.Core.Path.{_≡_, refl, sym, _∙_, ap}
-use mathlib.Core.Logic.{_⊎_, inl, inr}
-use mathlib.Core.Bool.{Bool, true, false, cond}
-use mathlib.Core.Option.{some, none}
+use mathlib.Core.Path.{_≡_, refl, sym, _∙_}
+use mathlib.Core.Logic.{_⊎_, inl, inr, ⊎-elim}
 use mathlib.Core.List.{List, [], _∷_}
-use Prim.Native.Nat.{ℕ, zero, suc, _+_, _-_, _/_, _%_, _<_, _≤_}
+use Prim.Native.Nat.{ℕ, zero, suc, _+_, _-_, _*_, _/_, _%_, _<_, _≤_}
 use native.Mathlib.Omega.{arith}
-use native.Mathlib.Nat.{add-zero}
-use native.Mathlib.Numerals.{add-one}
-use borrow.Author.Tests.{lt-ltb, le-ltb, eqb-true}
-use lib.Dec.{eqb}
-use lib.ListN.{length, replicate, getD, set, take, drop, length-replicate, length-drop, List·getD-eq-default}
-use lib.Seq.{ext-getD, getD-drop, sets-eq, paste}
+use native.Mathlib.Nat.{mul-suc, mul-le-mul-left}
+use borrow.Author.Tests.{lt-ltb, le-ltb}
+use lib.ListN.{length, getD}
+use lib.Seq.{ext-getD}
 use Rattle.words.specs.Words.{Word}
 use Rattle.words.proofs.Lists.{below-or}
-use Rattle.words.proofs.Pasted.{Pasted, pasted}
-use Rattle.words.specs.LittleEndian.{byte}
 use Rattle.meaning.specs.Answers.{linksCap}
 use Rattle.standing.specs.Sessions.{Session}
 use Rattle.standing.specs.Bytes.{linkStart, lengthStart, pieceStart, pieceRoom, size, countOf, lengthAt, Kept}
-use Rattle.standing.specs.Bytes.{belowFrom, linkFrom, NoneBelow, noEntry, entryOf, belowBytes, linkBytes}
-use Rattle.standing.specs.Bytes.{lengthBytes, byteOf, bytesOf}
-use Rattle.standing.specs.Numbers.{pieceEnd, Tidy, Ready, Holds, Same, Put}
+use Rattle.standing.specs.Bytes.{noEntry, entryOf, linkBytes}
+use Rattle.standing.specs.Bytes.{byteOf, bytesOf}
+use Rattle.standing.specs.Numbers.{Tidy, Holds, Same, Outside, Put}
 use Rattle.standing.proofs.Encoded.{byte-of, whole-of, getD-zeros}
 use Rattle.standing.proofs.Clear.{unused-behind}
 
--- two bytes stored one after the other are a part written
-pub stored : {to to′ : List ℕ} {at x y : ℕ} → at + 2 ≤ length to → to′ ≡ set (set to at x) (at + 1) y
-    → Pasted to at (x ∷ y ∷ []) to′
-stored {to} {to′} {at} {x} {y} le is = pasted le (is ∙ rw (add-one at) (sets-eq (x ∷ y ∷ []) to at le))
+-- a place is between two others or outside them
+pub within : (s t k : ℕ) → ((s ≤ k) × (k < t)) ⊎ ((k < s) ⊎ (t ≤ k))
+within s t k = go (below-or k s) (below-or k t)
+  where
+    go : (k < s) ⊎ (s ≤ k) → (k < t) ⊎ (t ≤ k) → ((s ≤ k) × (k < t)) ⊎ ((k < s) ⊎ (t ≤ k))
+    go (inl l) o = inr (inl l)
+    go (inr g) (inl l) = inl (g, l)
+    go (inr g) (inr h) = inr (inr h)
 
--- an entry written in parts: its link, its length, its piece; and then zeros to the end of the piece before
-pub record Parts (a : List ℕ) (i : ℕ) (five : List ℕ) (word : Word) (d : List ℕ) : Type 0 where
-  pub b : List ℕ
-  pub c : List ℕ
-  pub link : Pasted a (linkStart i) five b
-  pub long : Pasted b (lengthStart i) (lengthBytes word) c
-  pub piece : Pasted c (pieceStart i) word d
-  pub whole : length d ≡ length a
-
-abbrev withLength : List ℕ → ℕ → Word → List ℕ
-withLength b i word = set (set b (lengthStart i) (length word % 256)) (lengthStart i + 1) (length word / 256)
-
-pub parts-made : {a b d : List ℕ} {i : ℕ} {five : List ℕ} {word : Word} → length a ≡ size → Ready a i five word
-    → b ≡ paste a (linkStart i) five (length five)
-    → d ≡ paste (withLength b i word) (pieceStart i) word (length word) → Parts a i five word d
-parts-made {a} {b} {d} {i} {five} {word} whole ready e f =
-    let link : Pasted a (linkStart i) five b = pasted (omega arith) e in
-    let c = withLength b i word in
-    let long : Pasted b (lengthStart i) (lengthBytes word) c = stored (omega (arith, link .whole)) refl in
-    let piece : Pasted c (pieceStart i) word d = pasted (omega (arith, link .whole, long .whole)) f in
-    record {
-      b = b;
-      c = c;
-      link = link;
-      long = long;
-      piece = piece;
-      whole = piece .whole ∙ long .whole ∙ link .whole;
-    }
-
-module _ {a d e : List ℕ} {i : ℕ} {five : List ℕ} {word : Word} (ready : Ready a i five word)
-    (parts : Parts a i five word d)
-    (zeros : Pasted d (pieceStart i + length word) (replicate (lengthAt a i - length word) 0) e) where
-  abbrev link : Pasted a (linkStart i) five (parts .b)
-  link = parts .link
-
-  abbrev long : Pasted (parts .b) (lengthStart i) (lengthBytes word) (parts .c)
-  long = parts .long
-
-  abbrev piece : Pasted (parts .c) (pieceStart i) word d
-  piece = parts .piece
-
-  many : length (replicate {A = ℕ} (lengthAt a i - length word) 0) ≡ lengthAt a i - length word
-  many = length-replicate {A = ℕ} (lengthAt a i - length word) 0
-
-  -- the last two parts touch nothing outside the piece
-  before-piece : (k : ℕ) → k < pieceStart i → byte e k ≡ byte (parts .c) k
-  before-piece k lt = zeros .others k (inl (omega arith)) ∙ piece .others k (inl lt)
-
-  behind-piece : (k : ℕ) → pieceEnd a i ≤ k → pieceStart i + length word ≤ k → byte e k ≡ byte a k
-  behind-piece k le ge =
-      zeros .others k (inr (omega (arith, many)))
-      ∙ piece .others k (inr ge)
-      ∙ long .others k (inr (omega arith))
-      ∙ link .others k (inr (omega arith))
-
-  here-piece : (j : ℕ) → j < pieceRoom → byte e (pieceStart i + j) ≡ getD word j 0
-  here-piece j lt = go (below-or j (length word)) (below-or j (lengthAt a i))
-    where
-      go : (j < length word) ⊎ (length word ≤ j) → (j < lengthAt a i) ⊎ (lengthAt a i ≤ j)
-          → byte e (pieceStart i + j) ≡ getD word j 0
-      go (inl l) s = zeros .others (pieceStart i + j) (inl (omega arith)) ∙ piece .here j l
-      go (inr g) (inl l) =
-          let f : pieceStart i + j ≡ pieceStart i + length word + (j - length word) = omega arith in
-          ap (byte e) f
-          ∙ zeros .here (j - length word) (omega (arith, many))
-          ∙ getD-zeros (lengthAt a i - length word) (j - length word)
-          ∙ sym (List·getD-eq-default word 0 g)
-      go (inr g) (inr h) =
-          behind-piece (pieceStart i + j) (omega arith) (omega arith)
-          ∙ ready .tidy .behind .zero (pieceStart i + j) (omega arith) (omega arith)
-          ∙ sym (List·getD-eq-default word 0 g)
-
-  other : (k : ℕ) → k < linksCap → (k < i) ⊎ (i < k) → Same a e k
-  other k lt (inl l) =
+module _ {a e : List ℕ} {i : ℕ} {five : List ℕ} {word : Word} (p : Put a i five word e) (range : i < linksCap) where
+  -- all other links and pieces are the same
+  pub put-others : (k : ℕ) → k < linksCap → (k ≡ i → ⊥) → Same a e k
+  put-others k lt n =
       record {
         link = λ j h.
-            before-piece (linkStart k + j) (omega arith)
-            ∙ long .others (linkStart k + j) (inl (omega arith))
-            ∙ link .others (linkStart k + j) (inl (omega arith));
+            p .others (linkStart k + j)
+            (record { link = by 2 5 j h; long = inl (omega arith); piece = inl (omega arith) });
         long = λ j h.
-            before-piece (lengthStart k + j) (omega arith)
-            ∙ long .others (lengthStart k + j) (inl (omega arith))
-            ∙ link .others (lengthStart k + j) (inr (omega arith));
+            p .others (lengthStart k + j)
+            (record { link = inr (omega arith); long = by 322 2 j h; piece = inl (omega arith) });
         piece = λ j h.
-            before-piece (pieceStart k + j) (omega arith)
-            ∙ long .others (pieceStart k + j) (inr (omega arith))
-            ∙ link .others (pieceStart k + j) (inr (omega arith));
-      }
-  other k lt (inr l) =
-      record {
-        link = λ j h.
-            before-piece (linkStart k + j) (omega arith)
-            ∙ long .others (linkStart k + j) (inl (omega arith))
-            ∙ link .others (linkStart k + j) (inr (omega arith));
-        long = λ j h.
-            before-piece (lengthStart k + j) (omega arith)
-            ∙ long .others (lengthStart k + j) (inr (omega arith))
-            ∙ link .others (lengthStart k + j) (inr (omega arith));
-        piece = λ j h. behind-piece (pieceStart k + j) (omega (arith, ready .tidy .short)) (omega arith);
-      }
-
-  put-made : Put a i five word e
-  put-made =
-      record {
-        whole = zeros .whole ∙ parts .whole;
-        here = record {
-          link = λ j h.
-              before-piece (linkStart i + j) (omega arith)
-              ∙ long .others (linkStart i + j) (inl (omega arith))
-              ∙ link .here j (omega arith);
-          long = λ j h. before-piece (lengthStart i + j) (omega arith) ∙ long .here j h;
-          piece = here-piece;
-        };
-        others = λ k lt n. other k lt (sides k n);
+            p .others (pieceStart k + j)
+            (record { link = inr (omega arith); long = inr (omega arith); piece = by 450 512 j h });
       }
     where
-      sides : (k : ℕ) → (k ≡ i → ⊥) → (k < i) ⊎ (i < k)
-      sides k n = go (below-or k i) (below-or i k)
+      by : (s w j : ℕ) → j < w → (s + w * k + j < s + w * i) ⊎ (s + w * (i + 1) ≤ s + w * k + j)
+      by s w j h = go (below-or k i) (below-or i k)
         where
-          go : (k < i) ⊎ (i ≤ k) → (i < k) ⊎ (k ≤ i) → (k < i) ⊎ (i < k)
-          go (inl l) s = inl l
-          go (inr g) (inl l) = inr l
+          go : (k < i) ⊎ (i ≤ k) → (i < k) ⊎ (k ≤ i) → (s + w * k + j < s + w * i) ⊎ (s + w * (i + 1) ≤ s + w * k + j)
+          go (inl l) o = inl (omega (arith, mul-suc w k, mul-le-mul-left w l))
+          go (inr g) (inl l) = inr (omega (arith, mul-suc w i, mul-le-mul-left w l))
           go (inr g) (inr h) = absurd (n (omega arith))
 
--- where the piece before was no longer, and where it was
-pub put-over : {a d : List ℕ} {i : ℕ} {five : List ℕ} {word : Word} {old : ℕ} → Ready a i five word
-    → old ≡ lengthAt a i → old ≤ length word → Parts a i five word d → Put a i five word d
-put-over {a} {d} {i} {five} {word} ready e le parts =
-    let none : length (replicate {A = ℕ} (lengthAt a i - length word) 0) ≡ lengthAt a i - length word =
-    length-replicate {A = ℕ} (lengthAt a i - length word) 0 in
-    put-made ready parts
-    (record { whole = refl; here = λ j lt. absurd (omega arith); others = λ k side. refl })
+  -- and so it is known what was left
+  pub put-unique : {e′ : List ℕ} → Put a i five word e′ → e ≡ e′
+  put-unique {e′} q = ext-getD 0 e e′ (p .whole ∙ sym (q .whole)) (λ k lt. at k)
+    where
+      Here : ℕ → ℕ → ℕ → Type 0
+      Here s t k = ((s ≤ k) × (k < t)) ⊎ ((k < s) ⊎ (t ≤ k))
 
-pub put-behind : {a d e : List ℕ} {i : ℕ} {five : List ℕ} {word : Word} {old : ℕ} → length a ≡ size
-    → Ready a i five word → old ≡ lengthAt a i → length word ≤ old → Parts a i five word d
-    → e ≡ paste d (pieceStart i + length word) (replicate (old - length word) 0) (old - length word)
-    → Put a i five word e
-put-behind {a} {d} {e} {i} {five} {word} {old} whole ready f le parts is =
-    let many : length (replicate {A = ℕ} (old - length word) 0) ≡ old - length word =
-    length-replicate {A = ℕ} (old - length word) 0 in
-    let room : pieceStart i + length word + length (replicate {A = ℕ} (old - length word) 0) ≤ length d =
-    omega (arith, parts .whole, ready .tidy .short) in
-    let zeros : Pasted d (pieceStart i + length word) (replicate (old - length word) 0) e = pasted room (rw many is) in
-    put-made ready parts (rw f at zeros)
+      at : (k : ℕ) → byte e k ≡ byte e′ k
+      at k =
+          go (within (linkStart i) (linkStart (i + 1)) k) (within (lengthStart i) (lengthStart (i + 1)) k)
+          (within (pieceStart i) (pieceStart (i + 1)) k)
+        where
+          same : (s j : ℕ) → s + j ≡ k → byte e (s + j) ≡ byte e′ (s + j) → byte e k ≡ byte e′ k
+          same s j f h = rw f at h
+
+          go : Here (linkStart i) (linkStart (i + 1)) k → Here (lengthStart i) (lengthStart (i + 1)) k
+              → Here (pieceStart i) (pieceStart (i + 1)) k → byte e k ≡ byte e′ k
+          go (inl (x, y)) b c =
+              let j = k - linkStart i in
+              same (linkStart i) j (omega arith) (p .here .link j (omega arith) ∙ sym (q .here .link j (omega arith)))
+          go (inr a) (inl (x, y)) c =
+              let j = k - lengthStart i in
+              same (lengthStart i) j (omega arith) (p .here .long j (omega arith) ∙ sym (q .here .long j (omega arith)))
+          go (inr a) (inr b) (inl (x, y)) =
+              let j = k - pieceStart i in
+              same (pieceStart i) j (omega arith) (p .here .piece j (omega arith) ∙ sym (q .here .piece j (omega arith)))
+          go (inr a) (inr b) (inr c) =
+              let o : Outside i k = record { link = a; long = b; piece = c } in
+              p .others k o ∙ sym (q .others k o)
 
 -- what is the same is held as it was, and is as tidy
 pub held-same : {a b : List ℕ} {i : ℕ} {five : List ℕ} {word : Word} → Same a b i → Holds a i five word
@@ -267,25 +174,3 @@ held-all {bytes} S whole depth count all =
         let e : pieceStart ((k - 450) / 512) + (k - 450) % 512 ≡ k = omega arith in
         rw (le-ltb k 2 a, le-ltb k 322 b, le-ltb k 450 c)
         (rw e at (all ((k - 450) / 512) (omega arith) .piece ((k - 450) % 512) (omega arith)))
-
--- the five bytes that a link is read from are its bytes
-first-five : (l : List ℕ) → 5 ≤ length l
-    → take 5 l ≡ getD l 0 0 ∷ getD l 1 0 ∷ getD l 2 0 ∷ getD l 3 0 ∷ getD l 4 0 ∷ []
-first-five [] le = absurd (omega arith)
-first-five (a ∷ []) le = absurd (omega arith)
-first-five (a ∷ b ∷ []) le = absurd (omega arith)
-first-five (a ∷ b ∷ c ∷ []) le = absurd (omega arith)
-first-five (a ∷ b ∷ c ∷ d ∷ []) le = absurd (omega arith)
-first-five (a ∷ b ∷ c ∷ d ∷ e ∷ l) le = refl
-
-pub five-read : (bytes : List ℕ) (k : ℕ) → k + 5 ≤ length bytes → NoneBelow bytes k
-    → take 5 (drop k bytes) ≡ linkBytes (linkFrom bytes k)
-five-read bytes k le none-below =
-    first-five (drop k bytes) (omega (arith, length-drop k bytes))
-    ∙ simp (getD-drop, add-zero) (go (eqb (byte bytes k) 0) (λ t. eqb-true (byte bytes k) 0 t))
-  where
-    go : (b : Bool) → (b ≡ true → byte bytes k ≡ 0)
-        → byte bytes k ∷ byte bytes (k + 1) ∷ byte bytes (k + 2) ∷ byte bytes (k + 3) ∷ byte bytes (k + 4) ∷ []
-        ≡ byte bytes k ∷ byte bytes (k + 1) ∷ byte bytes (k + 2) ∷ belowBytes (cond b none (some (belowFrom bytes k)))
-    go true z = let x = none-below (z refl) in rw (x .0, x .1)
-    go false z = refl

@@ -13,7 +13,6 @@ pub mod Passed
 pub mod Feet
 pub mod Keys
 pub mod ByPlace
-pub mod Weighed
 pub mod Started
 pub mod Clear
 pub mod Held

@@ -2,19 +2,32 @@
 use mathlib.Core.Path.{_≡_}
 use mathlib.Core.Bool.{Bool, cond}
 use mathlib.Core.Logic.{_⊎_}
-use mathlib.Core.List.{List}
-use Prim.Native.Nat.{ℕ, _+_, _-_, _*_, _/_, _<_, _≤_}
+use mathlib.Core.List.{List, map}
+use Prim.Native.Nat.{ℕ, _+_, _*_, _/_, _<_, _≤_}
 use lib.Dec.{eqb}
-use lib.ListN.{length, getD, take, drop}
+use lib.ListN.{length, getD, drop}
+use Rattle.words.specs.Lists.{upTo}
 use Rattle.words.specs.Words.{Word, Bytes}
 use Rattle.words.specs.LittleEndian.{byte}
 use Rattle.meaning.specs.Table.{Table}
 use Rattle.meaning.specs.Trails.{Link}
 use Rattle.meaning.specs.Answers.{linksCap}
 use Rattle.standing.specs.Sessions.{Ranges, standsOn}
-use Rattle.standing.specs.Soundly.{Load, most, loads, longest}
+use Rattle.standing.specs.Soundly.{Load, most, loadsOf, longest}
 use Rattle.standing.specs.Bytes.{linkStart, lengthStart, pieceStart, pieceRoom, size, countOf, lengthAt}
-use Rattle.standing.specs.Bytes.{belowFrom, linkFrom, linkAt, NoneBelow, pieceAt, sessionOf, lengthBytes, Unused}
+use Rattle.standing.specs.Bytes.{belowFrom, linkFrom, linkAt, NoneBelow, sessionOf, lengthBytes, Unused}
+
+-- a head, which a session and the room of a step begin with, is what stands before the pieces: depth, count, links and
+-- lengths
+abbrev pub headSize : ℕ
+headSize = 450
+
+-- how many pairs of two bytes there are, and how many links of five
+abbrev pub pairs : ℕ
+pairs = 65536
+
+abbrev pub keys : ℕ
+keys = 1099511627776
 
 -- what the type of a session says of its bytes
 pub record Lent (bytes : List ℕ) : Type 0 where
@@ -68,14 +81,20 @@ abbrev pub startOf : List ℕ → ℕ → ℕ
 startOf starts l = getD starts l 0
 
 abbrev pub levelOf : ℕ → ℕ
-levelOf foot = foot / 65536
+levelOf foot = foot / pairs
 
--- each link stands between the start of its level and that of the next; no level is over 32, nothing is below level 0
-pub record Levelled (bytes starts : List ℕ) : Type 0 where
-  pub lent : Lent bytes
+-- a head whose links stand by level: no level is over 32, and nothing is below level 0
+pub record Graded (bytes : List ℕ) : Type 0 where
+  pub whole : headSize ≤ length bytes
   pub few : countOf bytes ≤ 64
   pub low : (j : ℕ) → j < countOf bytes → linkAt bytes j .level ≤ 32
-  pub bottom : (j : ℕ) → j < countOf bytes → linkAt bytes j .level ≡ 0 → footAt bytes j ≡ 0
+  pub bottom : (j : ℕ) → j < countOf bytes → NoneBelow bytes (linkStart j)
+  pub rise : (i j : ℕ) → i < j → j < countOf bytes → linkAt bytes i .level ≤ linkAt bytes j .level
+
+-- and each stands between the start of its level and that of the next
+pub record Levelled (bytes starts : List ℕ) : Type 0 where
+  pub graded : Graded bytes
+  pub small : Bytes bytes
   pub within : (l : ℕ) → startOf starts l ≤ countOf bytes
   pub after : (j : ℕ) → j < countOf bytes → startOf starts (linkAt bytes j .level) ≤ j
   pub before : (j : ℕ) → j < countOf bytes → j < startOf starts (linkAt bytes j .level + 1)
@@ -87,6 +106,12 @@ RootedAt bytes i = (footAt bytes i ≡ 0) ⊎ ((j : ℕ) × (j < countOf bytes) 
 -- the first byte of a piece is a byte, and that of the pieces before it, where there are any
 abbrev pub Agrees : ℕ → ℕ → Type 0
 Agrees first head = (head < 256) × (first < 256 → head ≡ first)
+
+-- of the first `n` places the first at which there is a number; `n` where it is at none
+pub record FirstAt (at : ℕ → ℕ) (n number r : ℕ) : Type 0 where
+  pub within : r ≤ n
+  pub before : (k : ℕ) → k < r → at k ≡ number → ⊥
+  pub found : r < n → at r ≡ number
 
 -- the pieces on the links with one foot have a common first byte
 abbrev pub Common : List ℕ → ℕ → Type 0
@@ -109,12 +134,25 @@ pub record Rests (T : Table) (bytes : List ℕ) : Type 0 where
   pub waiting : longest (sessionOf bytes .entries) ≤ T .waitingCap
   pub unused : Unused bytes
 
+-- what weighing asks of a head: pieces under 1,024 bytes, so that 64 of them have room in 16 bits, and no marker at
+-- level 0
+pub record Weighable (bytes : List ℕ) : Type 0 where
+  pub short : (i : ℕ) → i < countOf bytes → lengthAt bytes i < 1024
+  pub plain : (i : ℕ) → i < countOf bytes → linkAt bytes i .level ≡ 0 → linkAt bytes i .here .marker ≡ 0
+
+-- the links of a head with the lengths of their pieces
+abbrev pub weightAt : List ℕ → ℕ → Load
+weightAt bytes i = record { link = linkAt bytes i; bytes = lengthAt bytes i }
+
+abbrev pub weights : List ℕ → List Load
+weights bytes = map (weightAt bytes) (upTo (countOf bytes))
+
 -- what waits from each link upward, at most, of the links from a place on; and from one link
 unfoldable pub loadsFrom : List ℕ → ℕ → List Load
-loadsFrom bytes i = loads (drop i (sessionOf bytes .entries))
+loadsFrom bytes i = loadsOf (drop i (weights bytes))
 
 unfoldable pub loadAt : List ℕ → ℕ → ℕ
-loadAt bytes i = length (pieceAt bytes i) + most (standsOn (linkAt bytes i)) (loadsFrom bytes (i + 1))
+loadAt bytes i = lengthAt bytes i + most (standsOn (linkAt bytes i)) (loadsFrom bytes (i + 1))
 
 -- the loads of the links from a place on stand at their places
 pub record Weighed (bytes loads : List ℕ) (from : ℕ) : Type 0 where
@@ -140,10 +178,7 @@ pieceEnd bytes i = pieceStart i + lengthAt bytes i
 abbrev pub piecesEnd : List ℕ → ℕ
 piecesEnd bytes = pieceStart (countOf bytes)
 
--- the bytes from one place up to another; and whether they hold 0
-unfoldable pub between : ℕ → ℕ → List ℕ → List ℕ
-between s e bytes = take (e - s) (drop s bytes)
-
+-- the bytes from one place up to another hold 0
 pub record Clear (bytes : List ℕ) (s e : ℕ) : Type 0 where
   pub zero : (k : ℕ) → s ≤ k → k < e → byte bytes k ≡ 0
 
@@ -161,10 +196,9 @@ pub record Tidy (bytes : List ℕ) (i : ℕ) : Type 0 where
   pub short : lengthAt bytes i ≤ pieceRoom
   pub behind : Clear bytes (pieceEnd bytes i) (pieceStart (i + 1))
 
--- five bytes and a word can be put at the places of a link and its piece
-pub record Ready (bytes : List ℕ) (i : ℕ) (five : List ℕ) (word : Word) : Type 0 where
+-- a word can be put at the places of a link's piece
+pub record Ready (bytes : List ℕ) (i : ℕ) (word : Word) : Type 0 where
   pub range : i < linksCap
-  pub all : length five ≡ 5
   pub short : length word ≤ pieceRoom
   pub tidy : Tidy bytes i
 
@@ -179,8 +213,14 @@ pub record Same (bytes bytes′ : List ℕ) (i : ℕ) : Type 0 where
   pub long : (j : ℕ) → j < 2 → byte bytes′ (lengthStart i + j) ≡ byte bytes (lengthStart i + j)
   pub piece : (j : ℕ) → j < pieceRoom → byte bytes′ (pieceStart i + j) ≡ byte bytes (pieceStart i + j)
 
--- five bytes and a word were put at the places of a link and its piece, and all other links and pieces are as they were
+-- a place is not one of those of a link, its length and its piece
+pub record Outside (i k : ℕ) : Type 0 where
+  pub link : (k < linkStart i) ⊎ (linkStart (i + 1) ≤ k)
+  pub long : (k < lengthStart i) ⊎ (lengthStart (i + 1) ≤ k)
+  pub piece : (k < pieceStart i) ⊎ (pieceStart (i + 1) ≤ k)
+
+-- five bytes and a word were put at the places of a link and its piece, and all other bytes are as they were
 pub record Put (bytes : List ℕ) (i : ℕ) (five : List ℕ) (word : Word) (bytes′ : List ℕ) : Type 0 where
   pub whole : length bytes′ ≡ length bytes
   pub here : Holds bytes′ i five word
-  pub others : (k : ℕ) → k < linksCap → (k ≡ i → ⊥) → Same bytes bytes′ k
+  pub others : (k : ℕ) → Outside i k → byte bytes′ k ≡ byte bytes k

@@ -1,6 +1,6 @@
 -- Soundness as a test: each rule by looking at links and pieces, never at all trails, of which there can be too many.
 use mathlib.Core.Bool.{Bool, true, false, cond, _&&_, _||_, not}
-use mathlib.Core.List.{List, [], _∷_}
+use mathlib.Core.List.{List, [], _∷_, map}
 use Prim.Native.Nat.{ℕ, _+_, max}
 use lib.Dec.{eqb, ltb, leb}
 use lib.ListN.{length}
@@ -66,16 +66,28 @@ abbrev pub most : (Link → Bool) → List Load → ℕ
 most test [] = 0
 most test (h ∷ H) = cond (test (h .link)) (max (h .bytes) (most test H)) (most test H)
 
--- for each entry the most that waits from it upward: what stands on it comes after it
+-- for each link the most that waits from it upward: what stands on it comes after it
+abbrev pub loadsOf : List Load → List Load
+loadsOf [] = []
+loadsOf (w ∷ W) =
+    let H = loadsOf W in
+    record { link = w .link; bytes = w .bytes + most (standsOn (w .link)) H } ∷ H
+
+-- "no trail's waiting output is longer than the cap": the longest, by links and the lengths of their pieces alone
+abbrev pub longestOf : List Load → ℕ
+longestOf W = most onBottom (loadsOf W)
+
+-- an entry as its link and the length of its piece
+abbrev pub weight : Entry → Load
+weight e = record { link = e .link; bytes = length (e .piece) }
+
+-- the same for each entry of a session
 abbrev pub loads : List Entry → List Load
-loads [] = []
-loads (e ∷ E) =
-    let H = loads E in
-    record { link = e .link; bytes = length (e .piece) + most (standsOn (e .link)) H } ∷ H
+loads E = loadsOf (map weight E)
 
 -- "no trail's waiting output is longer than the cap": the longest
 abbrev pub longest : List Entry → ℕ
-longest E = most onBottom (loads E)
+longest E = longestOf (map weight E)
 
 -- whether all numbers of a piece are bytes
 abbrev pub inBytes : Word → Bool

@@ -1,13 +1,13 @@
 -- A part written into a list: what stands where after it, and on the way. Assumes nothing.
 use mathlib.Core.Path.{_≡_, refl, _∙_, ap}
 use mathlib.Core.Logic.{_⊎_, inl, inr}
-use mathlib.Core.List.{List, _++_}
+use mathlib.Core.List.{List, [], _∷_, _++_}
 use Prim.Native.Nat.{ℕ, _+_, _-_, _<_, _≤_}
 use native.Mathlib.Omega.{arith}
 use native.Mathlib.Numerals.{add-one}
 use lib.ListN.{length, getD, set, take, drop, length-set, List·getD-append}
 use lib.Seq.{getD-take, getD-drop, getD-append-add, length-take-le, paste, paste-zero, paste-suc}
-use lib.Seq.{length-paste, length-paste-head}
+use lib.Seq.{length-paste, length-paste-head, sets-eq}
 
 -- what the first bytes of a part leave where they are written, one after the other
 pub record Pasting (to₀ : List ℕ) (at : ℕ) (part : List ℕ) (i : ℕ) (to : List ℕ) : Type 0 where
@@ -82,3 +82,8 @@ pasted {to} {at} {part} room is =
       here = λ j lt. rw is (inside to at part room j lt);
       others = λ k side. rw is (outside to at part room k side);
     }
+
+-- two bytes stored one after the other are a part written
+pub stored : {to to′ : List ℕ} {at x y : ℕ} → at + 2 ≤ length to → to′ ≡ set (set to at x) (at + 1) y
+    → Pasted to at (x ∷ y ∷ []) to′
+stored {to} {to′} {at} {x} {y} le is = pasted le (is ∙ rw (add-one at) (sets-eq (x ∷ y ∷ []) to at le))

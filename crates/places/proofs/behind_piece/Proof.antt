@@ -1,6 +1,5 @@
 -- `places::behind_piece` meets its contract. Assumes nothing.
 use borrow.Author.Needs.{needs}
-use Rattle.standing.specs.Numbers.{between}
 use Rattle.places.proofs.behind_piece.Statement.{statement}
 use Rattle.places.proofs.behind_piece.Tie as tie
 
@@ -10,33 +9,26 @@ mul-start c = search needs
 add-start : tie.Need-add-start
 add-start c = search needs
 
-piece-length-requires : tie.Need-piece-length-requires
-piece-length-requires c κs = search needs
+long-requires : tie.Need-long-requires
+long-requires c κs = search needs
 
 add-start-2 : tie.Need-add-start-2
 add-start-2 c = search needs
 
-add-result : tie.Need-add-result
-add-result c = search needs
+add-blank : tie.Need-add-blank
+add-blank c = search needs
 
-mul-result : tie.Need-mul-result
-mul-result c = search needs
+mul-blank : tie.Need-mul-blank
+mul-blank c = search needs
 
-add-result-2 : tie.Need-add-result-2
-add-result-2 c = search needs
+add-blank-2 : tie.Need-add-blank-2
+add-blank-2 c = search needs
 
-sub-result : tie.Need-sub-result
-sub-result c = search needs
-
-part-result-start : tie.Need-part-result-start
-part-result-start c = search needs
-
-part-result-end : tie.Need-part-result-end
-part-result-end c = search needs
+blank-requires : tie.Need-blank-requires
+blank-requires c κs = search needs
 
 returns : tie.Need-returns
-unfolding between
-returns c = cc
+returns c = rw (c .before .long .ensures .0) at (c .blank .ensures)
 
 pub behind-piece-spec : {M : Type 1} → statement M
 behind-piece-spec =
@@ -44,12 +36,10 @@ behind-piece-spec =
     (tie.spec
     mul-start
     add-start
-    piece-length-requires
+    long-requires
     add-start-2
-    add-result
-    mul-result
-    add-result-2
-    sub-result
-    part-result-start
-    part-result-end
+    add-blank
+    mul-blank
+    add-blank-2
+    blank-requires
     returns)

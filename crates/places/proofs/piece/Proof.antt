@@ -1,4 +1,5 @@
 -- `places::piece` meets its contract. Assumes nothing.
+use mathlib.Core.Path.{refl}
 use native.Mathlib.Nat.{add-sub-cancel-left}
 use borrow.Author.Needs.{needs}
 use Rattle.places.proofs.piece.Statement.{statement}
@@ -10,11 +11,11 @@ mul-start c = search needs
 add-start : tie.Need-add-start
 add-start c = search needs
 
-piece-length-requires : tie.Need-piece-length-requires
-piece-length-requires c κs = search needs
+long-requires : tie.Need-long-requires
+long-requires c κs = search needs
 
-add-end : tie.Need-add-end
-add-end c = search needs
+add-result : tie.Need-add-result
+add-result c = search needs
 
 sub-result : tie.Need-sub-result
 sub-result c = search needs
@@ -26,7 +27,7 @@ part-result-end : tie.Need-part-result-end
 part-result-end c = search needs
 
 returns : tie.Need-returns
-returns c = rw add-sub-cancel-left (cc)
+returns c = rw (add-sub-cancel-left, c .before .long .ensures .0) refl
 
 pub piece-spec : {M : Type 1} → statement M
 piece-spec =
@@ -34,8 +35,8 @@ piece-spec =
     (tie.spec
     mul-start
     add-start
-    piece-length-requires
-    add-end
+    long-requires
+    add-result
     sub-result
     part-result-start
     part-result-end

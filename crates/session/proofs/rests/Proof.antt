@@ -1,12 +1,16 @@
 -- `session::rests` meets its contract: each rule is looked at where those before it hold. Assumes nothing.
+use mathlib.Core.Path.{_≡_, sym, _∙_, ap}
 use native.Mathlib.Omega.{arith}
-use Rattle.words.proofs.Exact.{no-exact, denied, granted}
 use borrow.Author.Needs.{needs}
+use Rattle.words.proofs.Exact.{no-exact, denied, granted}
+use Rattle.standing.specs.Soundly.{longestOf, longest}
+use Rattle.standing.specs.Bytes.{sessionOf}
+use Rattle.session.proofs.Rising.{weighable, entries-weights}
 use Rattle.session.proofs.rests.Statement.{statement}
 use Rattle.session.proofs.rests.Tie as tie
 
 groups-requires : tie.Need-groups-requires
-groups-requires c κs = c .before .pre .1
+groups-requires c κs = let pre = c .before .before .pre in (pre .0 .1, pre .1 .1)
 
 returns : tie.Need-returns
 returns c = no-exact (λ h. denied (c .before .groups .ensures) (c .if1 .taken) (h .groups))
@@ -16,16 +20,24 @@ waiting-cap-requires c κs = search needs
 
 longest-requires : tie.Need-longest-requires
 longest-requires c κs =
-    let pre = c .before .before .before .before .pre in
-    (pre .1, (_, pre .0 .1))
+    let pre = c .before .before .before .before .before .pre in
+    (pre .1 .1, weighable (pre .1 .0))
+
+-- the longest is that of the session's entries
+longest-is : (c : tie.After-longest)
+    → c .longest .result ≡ longest (sessionOf (c .before .before .before .before .before .before .args .session .now) .entries)
+longest-is c =
+    let pre = c .before .before .before .before .before .before .pre in
+    let links = pre .1 .0 in
+    c .longest .ensures ∙ ap longestOf (sym (entries-weights links (pre .0 .1) (pre .1 .1 .graded .few)))
 
 returns-2 : tie.Need-returns-2
-returns-2 c = no-exact (λ h. let w = h .waiting in omega arith)
+returns-2 c = no-exact (λ h. let w = h .waiting in omega (arith, longest-is (c .before)))
 
 unused-requires : tie.Need-unused-requires
 unused-requires c κs =
-    let pre = c .before .before .before .before .before .before .pre in
-    record { count = pre .1 .few; short = λ i l. pre .0 .1 .fit i l .short }
+    let pre = c .before .before .before .before .before .before .before .pre in
+    (pre .0 .1, record { count = pre .1 .1 .graded .few; short = λ i l. pre .1 .0 .fit i l .short })
 
 returns-3 : tie.Need-returns-3
 returns-3 c =
@@ -34,7 +46,7 @@ returns-3 c =
       λ t.
           record {
             groups = granted (after-groups .before .groups .ensures) (after-groups .if1 .left);
-            waiting = omega arith;
+            waiting = omega (arith, longest-is (c .before .before));
             unused = c .unused .ensures .1 t;
           },
     )

@@ -1,20 +1,25 @@
 -- `session::sound` meets its contract: each rule is looked at where those before it hold. Assumes nothing.
 use native.Mathlib.Omega.{arith}
+use borrow.Author.Needs.{needs}
 use Rattle.words.proofs.Exact.{denied, granted}
 use Rattle.standing.proofs.ByPlace.{by-place, not-sound}
-use Rattle.session.proofs.Levelled.{shallow}
-use borrow.Author.Needs.{needs}
+use Rattle.standing.specs.Numbers.{Lent}
+use Rattle.session.proofs.Rising.{shallow}
 use Rattle.session.proofs.sound.Statement.{statement}
 use Rattle.session.proofs.sound.Tie as tie
 
 count-requires : tie.Need-count-requires
 count-requires c κs = search needs
 
+-- the bytes are those of a session
+lent : (c : tie.After-count) → Lent (c .before .before .before .args .session .now)
+lent c = record { whole = omega arith; small = c .count .ensures .1 }
+
 returns : tie.Need-returns
-returns c = not-sound (c .before .count .ensures .1) (λ p. omega arith)
+returns c = not-sound (lent (c .before)) (λ p. omega arith)
 
 returns-2 : tie.Need-returns-2
-returns-2 c = not-sound (c .before .before .count .ensures .1) (λ p. omega arith)
+returns-2 c = not-sound (lent (c .before .before)) (λ p. omega arith)
 
 depth-cap-requires : tie.Need-depth-cap-requires
 depth-cap-requires c κs = search needs
@@ -23,7 +28,7 @@ depth-requires : tie.Need-depth-requires
 depth-requires c κs = search needs
 
 returns-3 : tie.Need-returns-3
-returns-3 c = not-sound (c .before .before .before .before .before .count .ensures .1) (λ p. omega arith)
+returns-3 c = not-sound (lent (c .before .before .before .before .before)) (λ p. omega arith)
 
 links-requires : tie.Need-links-requires
 links-requires c κs = search needs
@@ -31,20 +36,20 @@ links-requires c κs = search needs
 returns-4 : tie.Need-returns-4
 returns-4 c =
     let at-caps = c .before .before in
-    let lent = at-caps .before .before .before .before .before .count .ensures .1 in
-    not-sound lent (λ p. denied (c .before .links .ensures) (c .if4 .taken) (p .links))
+    not-sound (lent (at-caps .before .before .before .before .before)) (λ p. denied (c .before .links .ensures) (c .if4 .taken) (p .links))
 
 on-links-requires : tie.Need-on-links-requires
 on-links-requires c κs =
     let at-caps = c .before .before in
-    let good = at-caps .before .before .before .before .before .before .before .pre in
-    ((good, omega arith, omega (arith, shallow good)), granted (c .before .links .ensures) (c .if4 .left))
+    let at-count = at-caps .before .before .before .before .before in
+    let good = at-count .before .before .before .pre in
+    ((good, omega arith, omega (arith, shallow good)), (lent at-count, granted (c .before .links .ensures) (c .if4 .left)))
 
 returns-5 : tie.Need-returns-5
 returns-5 c =
     let after-links = c .before in
     let at-caps = after-links .before .before in
-    let sound = by-place (at-caps .before .before .before .before .before .count .ensures .1) in (
+    let sound = by-place (lent (at-caps .before .before .before .before .before)) in (
       λ s.
           let p = sound .1 s in
           c .on-links .ensures .0 (record { groups = p .groups; waiting = p .waiting; unused = p .unused }),

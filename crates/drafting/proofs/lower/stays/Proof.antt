@@ -3,7 +3,7 @@ use mathlib.Core.Path.{_∙_, ap}
 use native.Mathlib.Omega.{arith}
 use Rattle.words.proofs.Exact.{no-exact, exact-as}
 use Rattle.standing.specs.Numbers.{levelOf}
-use Rattle.session.proofs.Levelled.{seat-level}
+use Rattle.links.proofs.Levelled.{seat-level}
 use Rattle.drafting.proofs.Ranks.{one-level}
 use borrow.Author.Needs.{needs}
 use Rattle.drafting.proofs.lower.stays.Statement.{statement}

@@ -50,8 +50,7 @@ put-entry-requires : tie.Need-put-entry-requires
 put-entry-requires c κs =
     let at-piece = c .before .before .before .before in
     let start = at-piece .before .before .before in
-    draft-ready (comes (at-piece .before)) (at-piece .piece .ensures) (c .before .before .link .ensures)
-    (start .pre .0 .0) (start .pre .0 .1)
+    draft-ready (comes (at-piece .before)) (at-piece .piece .ensures) (start .pre .0 .0) (start .pre .0 .1)
 
 returns-2 : tie.Need-returns-2
 returns-2 c =

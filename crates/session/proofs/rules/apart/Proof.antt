@@ -4,12 +4,12 @@ use mathlib.Core.Path.{_≡_}
 use mathlib.Core.Logic.{⊎-elim}
 use Prim.Native.Nat.{_+_, _-_, _≤_}
 use native.Mathlib.Omega.{arith}
+use borrow.Author.Needs.{needs}
 use Rattle.words.proofs.Exact.{yes-exact, no-exact, denied, granted}
 use Rattle.standing.specs.Bytes.{countOf}
 use Rattle.standing.specs.Numbers.{startOf, levelOf}
 use Rattle.standing.proofs.Passed.{Heads, heads-next, heads-skip, heads-apart}
-use Rattle.session.proofs.Levelled.{heads-level, heads-ended}
-use borrow.Author.Needs.{needs}
+use Rattle.session.proofs.Rising.{heads-level, heads-ended}
 use Rattle.session.proofs.rules.apart.Statement.{statement}
 use Rattle.session.proofs.rules.apart.Tie as tie
 
@@ -27,24 +27,24 @@ add-start : tie.Need-add-start Inv-loop μ-loop
 add-start c = search needs
 
 start-requires : tie.Need-start-requires Inv-loop μ-loop
-start-requires c κs = omega (arith, c .pre .1)
+start-requires c κs = omega (arith, c .before .pre .2)
 
 start-requires-2 : tie.Need-start-requires-2 Inv-loop μ-loop
-start-requires-2 c κs = omega (arith, c .before .pre .1)
+start-requires-2 c κs = omega (arith, c .before .before .pre .2)
 
 loop-holds : tie.Need-loop-holds Inv-loop μ-loop
 loop-holds c =
-    let at-start = c .before .before in
-    let levels = at-start .pre .0 in
+    let at-start = c .before .before .before in
+    let levels = at-start .pre .1 in
     let within = levels .within (levelOf (at-start .args .foot) + 1) in (
-      omega (arith, within, levels .few),
+      omega (arith, within, levels .graded .few),
       omega (arith, within),
       c .before .start .ensures,
       heads-level levels _ _ (c .start2 .ensures),
     )
 
 foot-requires : tie.Need-foot-requires Inv-loop μ-loop
-foot-requires c κs = search needs
+foot-requires c κs = (c .before .before .before .before .before .pre .1 .graded .whole, omega arith)
 
 head-requires : tie.Need-head-requires Inv-loop μ-loop
 head-requires c κs = search needs
@@ -82,7 +82,7 @@ returns-2 : tie.Need-returns-2 Inv-loop μ-loop
 returns-2 c =
     let at-loop = c .before in
     let inv = at-loop .loop .inv in
-    let levels = at-loop .before .before .before .pre .0 in
+    let levels = at-loop .before .before .before .before .pre .1 in
     no-exact (λ d. d (heads-ended levels _ (inv .3) (omega arith)))
 
 pub apart-spec : {M : Type 1} → statement M

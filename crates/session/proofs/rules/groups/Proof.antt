@@ -3,10 +3,10 @@ use mathlib.Core.Path.{_≡_}
 use Prim.Native.Nat.{ℕ, _-_, _<_}
 use native.Mathlib.Omega.{arith}
 use borrow.Author.Count.{below-more}
+use borrow.Author.Needs.{needs}
 use Rattle.words.proofs.Exact.{yes-exact, no-exact, denied, granted}
 use Rattle.standing.specs.Bytes.{countOf}
 use Rattle.standing.specs.Numbers.{RootedAt, CarriesAt}
-use borrow.Author.Needs.{needs}
 use Rattle.session.proofs.rules.groups.Statement.{statement}
 use Rattle.session.proofs.rules.groups.Tie as tie
 
@@ -18,25 +18,25 @@ abbrev μ-loop : tie.MeasureT-loop
 μ-loop session starts n i₀ i = n - i
 
 apart-requires : tie.Need-apart-requires Inv-loop μ-loop
-apart-requires c κs = (c .pre, omega arith)
+apart-requires c κs = (c .before .pre .0, c .before .pre .1, omega arith)
 
 returns : tie.Need-returns Inv-loop μ-loop
 returns c = no-exact (λ h. denied (c .before .apart .ensures) (c .if1 .taken) (h .bottom))
 
 count-requires : tie.Need-count-requires Inv-loop μ-loop
-count-requires c κs = search needs
+count-requires c κs = c .before .before .before .pre .1 .graded .whole
 
 loop-holds : tie.Need-loop-holds Inv-loop μ-loop
 loop-holds c = (omega arith, λ k l. absurd (omega arith))
 
 rooted-requires : tie.Need-rooted-requires Inv-loop μ-loop
-rooted-requires c κs = (c .before .before .before .before .before .pre, omega arith)
+rooted-requires c κs = (c .before .before .before .before .before .before .pre .1, omega arith)
 
 returns-2 : tie.Need-returns-2 Inv-loop μ-loop
 returns-2 c = no-exact (λ h. denied (c .before .rooted .ensures) (c .if2 .taken) (h .rooted _ (omega arith)))
 
 carries-requires : tie.Need-carries-requires Inv-loop μ-loop
-carries-requires c κs = (c .before .before .before .before .before .before .before .pre, omega arith)
+carries-requires c κs = (c .before .before .before .before .before .before .before .before .pre, omega arith)
 
 returns-3 : tie.Need-returns-3 Inv-loop μ-loop
 returns-3 c = no-exact (λ h. denied (c .before .carries .ensures) (c .if3 .taken) (h .carries _ (omega arith)))

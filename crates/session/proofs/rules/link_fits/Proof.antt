@@ -1,8 +1,8 @@
 -- `session::rules::link_fits` meets its contract. Assumes nothing.
 use native.Mathlib.Omega.{arith}
 use borrow.Author.Tests.{eq-eqb, eqb-true}
-use Rattle.words.proofs.Exact.{yes-exact, no-exact, denied, granted}
 use borrow.Author.Needs.{needs}
+use Rattle.words.proofs.Exact.{yes-exact, no-exact, denied, granted}
 use Rattle.session.proofs.rules.link_fits.Statement.{statement}
 use Rattle.session.proofs.rules.link_fits.Tie as tie
 
@@ -33,8 +33,8 @@ markers-requires c κs = search needs
 returns-3 : tie.Need-returns-3
 returns-3 c = no-exact (λ h. omega arith)
 
-piece-length-requires : tie.Need-piece-length-requires
-piece-length-requires c κs = search needs
+long-requires : tie.Need-long-requires
+long-requires c κs = search needs
 
 returns-4 : tie.Need-returns-4
 returns-4 c = no-exact (λ h. omega arith)
@@ -99,7 +99,7 @@ link-fits-spec =
     marker-requires
     markers-requires
     returns-3
-    piece-length-requires
+    long-requires
     returns-4
     mark-fits-requires
     returns-5

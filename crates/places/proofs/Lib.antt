@@ -1,0 +1,2 @@
+-- What the functions of a session's places rest on.
+pub mod Entered
