@@ -9,6 +9,7 @@ use borrow.Author.Tests.{lt-ltb, le-ltb}
 use lib.ListN.{length, getD}
 use lib.Seq.{ext-getD}
 use Rattle.words.specs.Words.{Word}
+use Rattle.words.specs.LittleEndian.{byte}
 use Rattle.words.proofs.Lists.{below-or}
 use Rattle.meaning.specs.Answers.{linksCap}
 use Rattle.standing.specs.Sessions.{Session}
