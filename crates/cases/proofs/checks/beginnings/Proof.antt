@@ -14,32 +14,8 @@ Inv-loop file sum₀ n₀ sum n = (n ≤ length file + 1) × (sum ≤ n)
 abbrev μ-loop : tie.MeasureT-loop
 μ-loop file sum₀ n₀ sum n = length file + 1 - n
 
-g-requires : tie.Need-g-requires Inv-loop μ-loop
-g-requires c κs = search needs
-
-slice-aggregate-file : tie.Need-slice-aggregate-file Inv-loop μ-loop
-slice-aggregate-file c = search needs
-
-loop-holds : tie.Need-loop-holds Inv-loop μ-loop
-loop-holds c = search needs
-
 slice-aggregate-taken : tie.Need-slice-aggregate-taken Inv-loop μ-loop
 slice-aggregate-taken c = sym (length-take-le _ _ (omega arith))
-
-taken-requires : tie.Need-taken-requires Inv-loop μ-loop
-taken-requires c κs = search needs
-
-add-sum : tie.Need-add-sum Inv-loop μ-loop
-add-sum c = search needs
-
-add-n : tie.Need-add-n Inv-loop μ-loop
-add-n c = search needs
-
-loop-less : tie.Need-loop-less Inv-loop μ-loop
-loop-less c = search needs
-
-loop-again : tie.Need-loop-again Inv-loop μ-loop
-loop-again c = search needs
 
 returns : tie.Need-returns Inv-loop μ-loop
 returns c = search needs
@@ -50,13 +26,13 @@ beginnings-spec =
     (tie.spec
     Inv-loop
     μ-loop
-    g-requires
-    slice-aggregate-file
-    loop-holds
+    (λ c κs. search needs)
+    (λ c. search needs)
+    (λ c. search needs)
     slice-aggregate-taken
-    taken-requires
-    add-sum
-    add-n
-    loop-less
-    loop-again
+    (λ c κs. search needs)
+    (λ c. search needs)
+    (λ c. search needs)
+    (λ c. search needs)
+    (λ c. search needs)
     returns)

@@ -10,24 +10,6 @@ Inv-loop sum₀ at₀ sum at = (at ≤ 354) × (sum ≤ 256 * at)
 abbrev μ-loop : tie.MeasureT-loop
 μ-loop sum₀ at₀ sum at = 354 - at
 
-loop-holds : tie.Need-loop-holds Inv-loop μ-loop
-loop-holds c = search needs
-
-values-requires : tie.Need-values-requires Inv-loop μ-loop
-values-requires c κs = search needs
-
-add-sum : tie.Need-add-sum Inv-loop μ-loop
-add-sum c = search needs
-
-add-at : tie.Need-add-at Inv-loop μ-loop
-add-at c = search needs
-
-loop-less : tie.Need-loop-less Inv-loop μ-loop
-loop-less c = search needs
-
-loop-again : tie.Need-loop-again Inv-loop μ-loop
-loop-again c = search needs
-
 returns : tie.Need-returns Inv-loop μ-loop
 returns c = search needs
 
@@ -37,10 +19,10 @@ changes-spec =
     (tie.spec
     Inv-loop
     μ-loop
-    loop-holds
-    values-requires
-    add-sum
-    add-at
-    loop-less
-    loop-again
+    (λ c. search needs)
+    (λ c κs. search needs)
+    (λ c. search needs)
+    (λ c. search needs)
+    (λ c. search needs)
+    (λ c. search needs)
     returns)

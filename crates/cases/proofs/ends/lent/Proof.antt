@@ -6,17 +6,8 @@ use borrow.Author.Needs.{needs}
 use Rattle.cases.proofs.ends.lent.Statement.{statement}
 use Rattle.cases.proofs.ends.lent.Tie as tie
 
-slice-relend-prefix-finish : tie.Need-slice-relend-prefix-finish
-slice-relend-prefix-finish c = search needs
-
 slice-aggregate-finish : tie.Need-slice-aggregate-finish
 slice-aggregate-finish c = sym (length-take-le _ _ (omega arith))
-
-finish-requires : tie.Need-finish-requires
-finish-requires c κs = search needs
-
-same-length : tie.Need-same-length
-same-length c = search needs
 
 returns : tie.Need-returns
 returns c = search needs
@@ -24,4 +15,4 @@ returns c = search needs
 pub lent-spec : {M : Type 1} → statement M
 lent-spec =
     tie.close
-    (tie.spec slice-relend-prefix-finish slice-aggregate-finish finish-requires same-length returns)
+    (tie.spec (λ c. search needs) slice-aggregate-finish (λ c κs. search needs) (λ c. search needs) returns)

@@ -6,17 +6,8 @@ use borrow.Author.Needs.{needs}
 use Rattle.cases.proofs.joins.lent.Statement.{statement}
 use Rattle.cases.proofs.joins.lent.Tie as tie
 
-slice-relend-prefix-join : tie.Need-slice-relend-prefix-join
-slice-relend-prefix-join c = search needs
-
 slice-aggregate-join : tie.Need-slice-aggregate-join
 slice-aggregate-join c = sym (length-take-le _ _ (omega arith))
-
-join-requires : tie.Need-join-requires
-join-requires c κs = search needs
-
-same-length : tie.Need-same-length
-same-length c = search needs
 
 returns : tie.Need-returns
 returns c = search needs
@@ -24,4 +15,4 @@ returns c = search needs
 pub lent-spec : {M : Type 1} → statement M
 lent-spec =
     tie.close
-    (tie.spec slice-relend-prefix-join slice-aggregate-join join-requires same-length returns)
+    (tie.spec (λ c. search needs) slice-aggregate-join (λ c κs. search needs) (λ c. search needs) returns)

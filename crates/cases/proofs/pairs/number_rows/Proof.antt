@@ -12,24 +12,6 @@ Inv-loop rows₀ n calls i₀ rows i = (i ≤ n) × (length rows ≡ length rows
 abbrev μ-loop : tie.MeasureT-loop
 μ-loop rows₀ n calls i₀ rows i = n - i
 
-loop-holds : tie.Need-loop-holds Inv-loop μ-loop
-loop-holds c = search needs
-
-number-row-requires : tie.Need-number-row-requires Inv-loop μ-loop
-number-row-requires c κs = search needs
-
-add-i : tie.Need-add-i Inv-loop μ-loop
-add-i c = search needs
-
-loop-less : tie.Need-loop-less Inv-loop μ-loop
-loop-less c = search needs
-
-loop-again : tie.Need-loop-again Inv-loop μ-loop
-loop-again c = search needs
-
-same-length : tie.Need-same-length Inv-loop μ-loop
-same-length c = search needs
-
 returns : tie.Need-returns Inv-loop μ-loop
 returns c = search needs
 
@@ -39,10 +21,10 @@ number-rows-spec =
     (tie.spec
     Inv-loop
     μ-loop
-    loop-holds
-    number-row-requires
-    add-i
-    loop-less
-    loop-again
-    same-length
+    (λ c. search needs)
+    (λ c κs. search needs)
+    (λ c. search needs)
+    (λ c. search needs)
+    (λ c. search needs)
+    (λ c. search needs)
     returns)

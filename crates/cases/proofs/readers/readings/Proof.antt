@@ -5,15 +5,6 @@ use Rattle.checking.specs.Calls.{numberOf}
 use Rattle.cases.proofs.readers.readings.Statement.{statement}
 use Rattle.cases.proofs.readers.readings.Tie as tie
 
-check-requires : tie.Need-check-requires
-check-requires c κs = search needs
-
-enum-told : tie.Need-enum-told
-enum-told c = search needs
-
-enum-told-2 : tie.Need-enum-told-2
-enum-told-2 c = search needs
-
 show-requires : tie.Need-show-requires
 show-requires c κs = c .before .before .check .ensures .good .0 (ap numberOf (c .enum-told2 .given .1))
 
@@ -25,4 +16,4 @@ returns-2 c = search needs
 
 pub readings-spec : {M : Type 1} → statement M
 readings-spec =
-    tie.close (tie.spec check-requires enum-told enum-told-2 show-requires returns returns-2)
+    tie.close (tie.spec (λ c κs. search needs) (λ c. search needs) (λ c. search needs) show-requires returns returns-2)

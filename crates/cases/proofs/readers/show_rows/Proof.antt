@@ -10,24 +10,6 @@ Inv-loop file n i₀ i = i ≤ n
 abbrev μ-loop : tie.MeasureT-loop
 μ-loop file n i₀ i = n - i
 
-row-count-requires : tie.Need-row-count-requires Inv-loop μ-loop
-row-count-requires c κs = search needs
-
-loop-holds : tie.Need-loop-holds Inv-loop μ-loop
-loop-holds c = search needs
-
-row-requires : tie.Need-row-requires Inv-loop μ-loop
-row-requires c κs = search needs
-
-add-i : tie.Need-add-i Inv-loop μ-loop
-add-i c = search needs
-
-loop-less : tie.Need-loop-less Inv-loop μ-loop
-loop-less c = search needs
-
-loop-again : tie.Need-loop-again Inv-loop μ-loop
-loop-again c = search needs
-
 returns : tie.Need-returns Inv-loop μ-loop
 returns c = search needs
 
@@ -37,10 +19,10 @@ show-rows-spec =
     (tie.spec
     Inv-loop
     μ-loop
-    row-count-requires
-    loop-holds
-    row-requires
-    add-i
-    loop-less
-    loop-again
+    (λ c κs. search needs)
+    (λ c. search needs)
+    (λ c κs. search needs)
+    (λ c. search needs)
+    (λ c. search needs)
+    (λ c. search needs)
     returns)

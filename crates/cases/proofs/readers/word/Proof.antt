@@ -10,12 +10,9 @@ row-word-requires c κs =
     let within = c .before .pre .1 in
     word-in _ _ (good .contents) within (good .rows .fit _ within)
 
-write-all-requires : tie.Need-write-all-requires
-write-all-requires c κs = search needs
-
 returns : tie.Need-returns
 returns c = search needs
 
 pub word-spec : {M : Type 1} → statement M
 word-spec =
-    tie.close (tie.spec row-word-requires write-all-requires returns)
+    tie.close (tie.spec row-word-requires (λ c κs. search needs) returns)

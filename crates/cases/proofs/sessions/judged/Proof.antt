@@ -5,15 +5,6 @@ use borrow.Author.Needs.{needs}
 use Rattle.cases.proofs.sessions.judged.Statement.{statement}
 use Rattle.cases.proofs.sessions.judged.Tie as tie
 
-check-requires : tie.Need-check-requires
-check-requires c κs = search needs
-
-enum-told : tie.Need-enum-told
-enum-told c = search needs
-
-enum-told-2 : tie.Need-enum-told-2
-enum-told-2 c = search needs
-
 found-requires : tie.Need-found-requires
 found-requires c κs = c .before .before .check .ensures .good .0 (ap numberOf (c .enum-told2 .given .1))
 
@@ -25,4 +16,4 @@ returns-2 c = search needs
 
 pub judged-spec : {M : Type 1} → statement M
 judged-spec =
-    tie.close (tie.spec check-requires enum-told enum-told-2 found-requires returns returns-2)
+    tie.close (tie.spec (λ c κs. search needs) (λ c. search needs) (λ c. search needs) found-requires returns returns-2)

@@ -12,24 +12,6 @@ Inv-loop file₀ k₀ file k = (k ≤ 56) × (length file ≡ length file₀)
 abbrev μ-loop : tie.MeasureT-loop
 μ-loop file₀ k₀ file k = 56 - k
 
-loop-holds : tie.Need-loop-holds Inv-loop μ-loop
-loop-holds c = search needs
-
-call-row-requires : tie.Need-call-row-requires Inv-loop μ-loop
-call-row-requires c κs = search needs
-
-add-k : tie.Need-add-k Inv-loop μ-loop
-add-k c = search needs
-
-loop-less : tie.Need-loop-less Inv-loop μ-loop
-loop-less c = search needs
-
-loop-again : tie.Need-loop-again Inv-loop μ-loop
-loop-again c = search needs
-
-same-length : tie.Need-same-length Inv-loop μ-loop
-same-length c = search needs
-
 returns : tie.Need-returns Inv-loop μ-loop
 returns c = search needs
 
@@ -39,10 +21,10 @@ call-rows-spec =
     (tie.spec
     Inv-loop
     μ-loop
-    loop-holds
-    call-row-requires
-    add-k
-    loop-less
-    loop-again
-    same-length
+    (λ c. search needs)
+    (λ c κs. search needs)
+    (λ c. search needs)
+    (λ c. search needs)
+    (λ c. search needs)
+    (λ c. search needs)
     returns)

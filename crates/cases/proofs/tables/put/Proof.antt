@@ -15,32 +15,14 @@ Inv-loop file₀ at bytes i₀ file i = (i ≤ length bytes) × (length file ≡
 abbrev μ-loop : tie.MeasureT-loop
 μ-loop file₀ at bytes i₀ file i = length bytes - i
 
-loop-holds : tie.Need-loop-holds Inv-loop μ-loop
-loop-holds c = search needs
-
-sub-if2 : tie.Need-sub-if2 Inv-loop μ-loop
-sub-if2 c = search needs
-
-shared-slice-read-file : tie.Need-shared-slice-read-file Inv-loop μ-loop
-shared-slice-read-file c = search needs
-
 add-file : tie.Need-add-file Inv-loop μ-loop
 add-file c = omega (arith, ltb-true)
 
 slice-write-file : tie.Need-slice-write-file Inv-loop μ-loop
 slice-write-file c = omega (arith, ltb-true)
 
-add-i : tie.Need-add-i Inv-loop μ-loop
-add-i c = search needs
-
-loop-less : tie.Need-loop-less Inv-loop μ-loop
-loop-less c = search needs
-
 loop-again : tie.Need-loop-again Inv-loop μ-loop
 loop-again c = ⊎-elim (λ w. rw (w .3) (simp length-set (omega arith))) (λ w. search needs) (c .if1 .came)
-
-same-length : tie.Need-same-length Inv-loop μ-loop
-same-length c = search needs
 
 returns : tie.Need-returns Inv-loop μ-loop
 returns c = search needs
@@ -51,13 +33,13 @@ put-spec =
     (tie.spec
     Inv-loop
     μ-loop
-    loop-holds
-    sub-if2
-    shared-slice-read-file
+    (λ c. search needs)
+    (λ c. search needs)
+    (λ c. search needs)
     add-file
     slice-write-file
-    add-i
-    loop-less
+    (λ c. search needs)
+    (λ c. search needs)
     loop-again
-    same-length
+    (λ c. search needs)
     returns)
