@@ -6,7 +6,6 @@ mod rules;
 mod unused;
 mod weigh;
 
-pub use fresh::Opening;
 pub use fresh::begin;
 use levels::LEVELS;
 use places::SIZE;

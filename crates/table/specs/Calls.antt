@@ -4,6 +4,8 @@ use mathlib.Core.Logic.{_↔_}
 use mathlib.Core.List.{List}
 use Prim.Native.Nat.{ℕ, _+_, _*_, _<_, _≤_}
 use lib.ListN.{length}
+use Rattle.numbers.specs.Numbers.{numberOf}
+use Rattle.numbers.specs.declared.Answer.{Answer}
 use Rattle.meaning.specs.Table.{Class as Kind, unused, call, return, internal, Row}
 use Rattle.table.specs.File.{byte, two, rowCount, rowStart, wordsStart, rowAt}
 use Rattle.table.specs.Good.{first, Good}
@@ -14,6 +16,10 @@ use Rattle.table.specs.declared.read.Class.the-variants.{Unused, Call, R
 pub record Judged (file : List ℕ) (number : ℕ) : Type 0 where
   pub good : (number ≡ 0) ↔ Good first file
   pub bad : (number ≡ 1) ↔ (Good first file → ⊥)
+
+-- "Check and begin: 1": what an answer of `check` says; it writes nothing
+abbrev pub Checked : List ℕ → Answer → Type 0
+Checked file r = Judged file (numberOf (r .number)) × (r .count ≡ 0)
 
 -- the class that a variant stands for
 abbrev pub meant : Class → Kind

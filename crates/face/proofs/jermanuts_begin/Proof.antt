@@ -1,5 +1,6 @@
 -- `face::jermanuts_begin` meets its contract. Assumes nothing.
-use Rattle.face.proofs.Said.{said-begun}
+use native.Mathlib.Omega.{arith}
+use Rattle.session.proofs.Began.{begun-few}
 use borrow.Author.Needs.{needs}
 use Rattle.face.proofs.jermanuts_begin.Statement.{statement}
 use Rattle.face.proofs.jermanuts_begin.Tie as tie
@@ -7,17 +8,14 @@ use Rattle.face.proofs.jermanuts_begin.Tie as tie
 begin-requires : tie.Need-begin-requires
 begin-requires c κs = search needs
 
-states-of-requires : tie.Need-states-of-requires
-states-of-requires c κs = search needs
+cast-states : tie.Need-cast-states
+cast-states c = omega (arith, begun-few (c .before .begin .ensures))
 
-opening-number-requires : tie.Need-opening-number-requires
-opening-number-requires c κs = search needs
+number-of-requires : tie.Need-number-of-requires
+number-of-requires c κs = search needs
 
 returns : tie.Need-returns
-returns c =
-    let begun = c .before .before in
-    said-begun (begun .begin .result) (c .opening-number .ensures) (c .before .states-of .ensures)
-    (begun .begin .ensures)
+returns c = rw (c .number-of .ensures) (c .before .before .begin .ensures)
 
 pub jermanuts-begin-spec : {M : Type 1} → statement M
-jermanuts-begin-spec = tie.close (tie.spec begin-requires states-of-requires opening-number-requires returns)
+jermanuts-begin-spec = tie.close (tie.spec begin-requires cast-states number-of-requires returns)

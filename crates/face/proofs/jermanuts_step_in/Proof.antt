@@ -1,5 +1,4 @@
 -- `face::jermanuts_step_in` meets its contract. Assumes nothing.
-use Rattle.engine.proofs.Telling.{said-stepped}
 use borrow.Author.Needs.{needs}
 use Rattle.face.proofs.jermanuts_step_in.Statement.{statement}
 use Rattle.face.proofs.jermanuts_step_in.Tie as tie
@@ -7,21 +6,14 @@ use Rattle.face.proofs.jermanuts_step_in.Tie as tie
 step-in-requires : tie.Need-step-in-requires
 step-in-requires c κs = search needs
 
-said-by-step-requires : tie.Need-said-by-step-requires
-said-by-step-requires c κs = search needs
-
-cast-result : tie.Need-cast-result
-cast-result c = search needs
+number-of-requires : tie.Need-number-of-requires
+number-of-requires c κs = search needs
 
 same-length : tie.Need-same-length
 same-length c = search needs
 
 returns : tie.Need-returns
-returns c =
-    let said = c .before .said-by-step .ensures in
-    let stepped = c .before .before .before .before in
-    said-stepped (stepped .step-in .result) (said .0) (said .1) (stepped .step-in .ensures)
+returns c = rw (c .number-of .ensures) (c .before .before .before .step-in .ensures)
 
 pub jermanuts-step-in-spec : {M : Type 1} → statement M
-jermanuts-step-in-spec =
-    tie.close (tie.spec step-in-requires said-by-step-requires cast-result same-length returns)
+jermanuts-step-in-spec = tie.close (tie.spec step-in-requires number-of-requires same-length returns)

@@ -1,21 +1,17 @@
 -- `cases::readers::list` meets its contract: a file that `check` takes is good. Assumes nothing.
-use mathlib.Core.Path.{ap}
 use borrow.Author.Needs.{needs}
-use Rattle.checking.specs.Calls.{numberOf}
 use Rattle.cases.proofs.readers.list.Statement.{statement}
 use Rattle.cases.proofs.readers.list.Tie as tie
 
 check-requires : tie.Need-check-requires
 check-requires c κs = search needs
 
-enum-told : tie.Need-enum-told
-enum-told c = search needs
-
-enum-told-2 : tie.Need-enum-told-2
-enum-told-2 c = search needs
+is-taken-requires : tie.Need-is-taken-requires
+is-taken-requires c κs = search needs
 
 show-rows-requires : tie.Need-show-rows-requires
-show-rows-requires c κs = c .before .before .check .ensures .good .0 (ap numberOf (c .enum-told2 .given .1))
+show-rows-requires c κs =
+    c .before .before .check .ensures .0 .good .0 (c .before .is-taken .ensures .1 (c .if1 .taken))
 
 returns : tie.Need-returns
 returns c = search needs
@@ -24,5 +20,4 @@ returns-2 : tie.Need-returns-2
 returns-2 c = search needs
 
 pub list-spec : {M : Type 1} → statement M
-list-spec =
-    tie.close (tie.spec check-requires enum-told enum-told-2 show-rows-requires returns returns-2)
+list-spec = tie.close (tie.spec check-requires is-taken-requires show-rows-requires returns returns-2)

@@ -3,6 +3,7 @@ use mathlib.Core.Path.{ap}
 use native.Mathlib.Omega.{arith}
 use lib.ListN.{length}
 use Rattle.words.proofs.Exact.{denied, granted}
+use Rattle.stepping.proofs.Told.{ended}
 use Rattle.ending.proofs.Closing.{found-measured, ended-ambiguous, ended-no-room, ended-taken}
 use borrow.Author.Needs.{needs}
 use Rattle.ending.proofs.finishing.of_link.Statement.{statement}
@@ -11,10 +12,14 @@ use Rattle.ending.proofs.finishing.of_link.Tie as tie
 like-requires : tie.Need-like-requires
 like-requires c κs = let f = c .before .before .pre in (found-measured f, f .within)
 
+refused-requires : tie.Need-refused-requires
+refused-requires c κs = search needs
+
 returns : tie.Need-returns
 returns c =
-    let f = c .before .before .before .before .pre in
-    ended-ambiguous f _ (denied (c .before .like .ensures) (c .if1 .taken))
+    let told = c .before in
+    let f = told .before .before .before .before .pre in
+    ended (c .refused .ensures) (ended-ambiguous f _ (denied (told .before .like .ensures) (told .if1 .taken)))
 
 piece-requires : tie.Need-piece-requires
 piece-requires c κs =
@@ -22,28 +27,48 @@ piece-requires c κs =
     let m = found-measured f in
     (omega (arith, f .within, m .count), m .short _ (f .within))
 
+refused-requires-2 : tie.Need-refused-requires-2
+refused-requires-2 c κs = search needs
+
 returns-2 : tie.Need-returns-2
 returns-2 c =
-    let asked = c .before .before in
+    let read = c .before .before in
+    let asked = read .before in
     let f = asked .before .before .before .before .pre in
-    ended-no-room f _ (granted (asked .before .like .ensures) (asked .if1 .left))
-    (omega (arith, ap length (c .before .piece .ensures)))
+    ended (c .refused2 .ensures)
+    (ended-no-room f _ (granted (asked .before .like .ensures) (asked .if1 .left))
+    (omega (arith, ap length (read .piece .ensures))))
 
 send-requires : tie.Need-send-requires
 send-requires c κs = search needs
+
+taken-requires : tie.Need-taken-requires
+taken-requires c κs = search needs
 
 same-length : tie.Need-same-length
 same-length c = search needs
 
 returns-3 : tie.Need-returns-3
 returns-3 c =
-    let sent = c .before .before in
+    let sent = c .before .before .before in
     let read = sent .before .before .before in
     let asked = read .before in
     let f = asked .before .before .before .before .pre in
-    ended-taken f _ (granted (asked .before .like .ensures) (asked .if1 .left)) (read .piece .ensures) (omega arith)
-    (sent .send .ensures)
+    ended (c .taken .ensures)
+    (ended-taken f _ (granted (asked .before .like .ensures) (asked .if1 .left)) (read .piece .ensures) (omega arith)
+    (sent .send .ensures))
 
 pub of-link-spec : {M : Type 1} → statement M
 of-link-spec =
-    tie.close (tie.spec like-requires returns piece-requires returns-2 send-requires same-length returns-3)
+    tie.close
+    (tie.spec
+    like-requires
+    refused-requires
+    returns
+    piece-requires
+    refused-requires-2
+    returns-2
+    send-requires
+    taken-requires
+    same-length
+    returns-3)

@@ -1,4 +1,5 @@
 -- `ending::finishing::of_session` meets its contract. Assumes nothing.
+use Rattle.stepping.proofs.Told.{ended}
 use Rattle.ending.specs.Finishing.{Closed}
 use Rattle.ending.proofs.Closing.{ended-unclosed, ended-not-final}
 use native.Mathlib.Omega.{arith}
@@ -9,9 +10,13 @@ use Rattle.ending.proofs.finishing.of_session.Tie as tie
 depth-requires : tie.Need-depth-requires
 depth-requires c κs = search needs
 
+refused-requires : tie.Need-refused-requires
+refused-requires c κs = search needs
+
 returns : tie.Need-returns
 returns c =
-    ended-unclosed _ _ _ (c .before .before .before .before .pre) (λ z. omega arith)
+    ended (c .refused .ensures)
+    (ended-unclosed _ _ _ (c .before .before .before .before .before .pre) (λ z. omega arith))
 
 final-set-requires : tie.Need-final-set-requires
 final-set-requires c κs = search needs
@@ -28,15 +33,19 @@ closed : (c : tie.After-final-set) →
     Closed (args .file .now) (args .session .now) (c .final-set .result)
 closed c =
     record {
-      ready = c .before .before .before .before .before .pre;
+      proper = c .before .before .before .before .before .pre;
       flat = omega arith;
       are = c .final-set .ensures;
     }
 
+refused-requires-2 : tie.Need-refused-requires-2
+refused-requires-2 c κs = search needs
+
 returns-2 : tie.Need-returns-2
 returns-2 c =
-    let found = c .before .before in
-    ended-not-final (closed (found .before)) _ (found .first-final .ensures) (omega arith)
+    let found = c .before .before .before in
+    ended (c .refused2 .ensures)
+    (ended-not-final (closed (found .before)) _ (found .first-final .ensures) (omega arith))
 
 of-link-requires : tie.Need-of-link-requires
 of-link-requires c κs =
@@ -55,10 +64,12 @@ of-session-spec =
     tie.close
     (tie.spec
     depth-requires
+    refused-requires
     returns
     final-set-requires
     first-final-requires
     count-requires
+    refused-requires-2
     returns-2
     of-link-requires
     same-length

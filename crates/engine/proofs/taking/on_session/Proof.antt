@@ -2,6 +2,7 @@
 use mathlib.Core.Path.{sym, _∙_, ap}
 use native.Mathlib.Omega.{arith}
 use Rattle.table.specs.Calls.{meant}
+use Rattle.stepping.proofs.Told.{answered}
 use Rattle.engine.proofs.Asked.{asked-unused, asked-deep, asked-closed, opened-call, opened-return}
 use Rattle.engine.proofs.Asked.{opened-internal}
 use borrow.Author.Needs.{needs}
@@ -17,18 +18,24 @@ class-of-requires c κs = search needs
 enum-told : tie.Need-enum-told
 enum-told c = search needs
 
+refused-requires : tie.Need-refused-requires
+refused-requires c κs = search needs
+
 enum-told-2 : tie.Need-enum-told-2
 enum-told-2 c = search needs
 
 depth-cap-requires : tie.Need-depth-cap-requires
 depth-cap-requires c κs = search needs
 
+refused-requires-2 : tie.Need-refused-requires-2
+refused-requires-2 c κs = search needs
+
 returns : tie.Need-returns
 returns c =
-    let class = c .before .before .before .before in
-    let ready = class .before .before .before .before .before .pre in
-    let k = sym (class .class-of .ensures) ∙ ap meant (c .before .before .enum-told2 .given .1) in
-    asked-deep ready _ _ (class .before .depth .ensures) _ k (omega arith)
+    let class = c .before .before .before .before .before in
+    let proper = class .before .before .before .before .before .pre in
+    let k = sym (class .class-of .ensures) ∙ ap meant (c .before .before .before .enum-told2 .given .1) in
+    answered (c .refused2 .ensures) (asked-deep proper _ _ (class .before .depth .ensures) _ k (omega arith))
 
 add-on-open : tie.Need-add-on-open
 add-on-open c = search needs
@@ -36,20 +43,23 @@ add-on-open c = search needs
 on-open-requires : tie.Need-on-open-requires
 on-open-requires c κs =
     let class = c .before .before .before .before .before .before .before in
-    let ready = class .before .before .before .before .before .pre in
+    let proper = class .before .before .before .before .before .pre in
     let told = c .before .before .before .before .before in
     let k = sym (class .class-of .ensures) ∙ ap meant (told .enum-told2 .given .1) in
-    opened-call ready _ _ (class .before .depth .ensures) k (λ e. omega arith)
+    opened-call proper _ _ (class .before .depth .ensures) k (λ e. omega arith)
 
 enum-told-3 : tie.Need-enum-told-3
 enum-told-3 c = search needs
 
+refused-requires-3 : tie.Need-refused-requires-3
+refused-requires-3 c κs = search needs
+
 returns-2 : tie.Need-returns-2
 returns-2 c =
-    let class = c .before .before .before in
-    let ready = class .before .before .before .before .before .pre in
-    let k = sym (class .class-of .ensures) ∙ ap meant (c .before .enum-told3 .given .1) in
-    asked-closed ready _ _ (class .before .depth .ensures) _ k (omega arith)
+    let class = c .before .before .before .before in
+    let proper = class .before .before .before .before .before .pre in
+    let k = sym (class .class-of .ensures) ∙ ap meant (c .before .before .enum-told3 .given .1) in
+    answered (c .refused3 .ensures) (asked-closed proper _ _ (class .before .depth .ensures) _ k (omega arith))
 
 sub-on-open : tie.Need-sub-on-open
 sub-on-open c = search needs
@@ -57,9 +67,9 @@ sub-on-open c = search needs
 on-open-requires-2 : tie.Need-on-open-requires-2
 on-open-requires-2 c κs =
     let class = c .before .before .before .before .before .before in
-    let ready = class .before .before .before .before .before .pre in
+    let proper = class .before .before .before .before .before .pre in
     let k = sym (class .class-of .ensures) ∙ ap meant (c .before .before .before .before .enum-told3 .given .1) in
-    opened-return ready _ _ (class .before .depth .ensures) k (λ e. omega arith)
+    opened-return proper _ _ (class .before .depth .ensures) k (λ e. omega arith)
 
 enum-told-4 : tie.Need-enum-told-4
 enum-told-4 c = search needs
@@ -67,16 +77,16 @@ enum-told-4 c = search needs
 on-open-requires-3 : tie.Need-on-open-requires-3
 on-open-requires-3 c κs =
     let class = c .before .before .before .before .before in
-    let ready = class .before .before .before .before .before .pre in
+    let proper = class .before .before .before .before .before .pre in
     let k = sym (class .class-of .ensures) ∙ ap meant (c .before .before .before .enum-told4 .given .1) in
-    opened-internal ready _ _ (class .before .depth .ensures) k
+    opened-internal proper _ _ (class .before .depth .ensures) k
 
 returns-3 : tie.Need-returns-3
 returns-3 c =
-    let class = c .before .before in
-    let ready = class .before .before .before .before .before .pre in
-    let k = sym (class .class-of .ensures) ∙ ap meant (c .enum-told .given .1) in
-    asked-unused ready _ _ k
+    let class = c .before .before .before in
+    let proper = class .before .before .before .before .before .pre in
+    let k = sym (class .class-of .ensures) ∙ ap meant (c .before .enum-told .given .1) in
+    answered (c .refused .ensures) (asked-unused proper _ _ k)
 
 same-length : tie.Need-same-length
 same-length c = search needs
@@ -103,12 +113,15 @@ on-session-spec =
     depth-requires
     class-of-requires
     enum-told
+    refused-requires
     enum-told-2
     depth-cap-requires
+    refused-requires-2
     returns
     add-on-open
     on-open-requires
     enum-told-3
+    refused-requires-3
     returns-2
     sub-on-open
     on-open-requires-2

@@ -2,6 +2,7 @@
 use mathlib.Core.Path.{ap}
 use native.Mathlib.Omega.{arith}
 use lib.ListN.{length}
+use Rattle.stepping.proofs.Told.{answered}
 use Rattle.engine.proofs.Ended.{settled-backlog, settled-no-room, settled-part, settled-depth, settled-cuts}
 use Rattle.engine.proofs.Ended.{settled-taken}
 use borrow.Author.Needs.{needs}
@@ -14,11 +15,21 @@ waiting-cap-requires c κs = search needs
 longest-requires : tie.Need-longest-requires
 longest-requires c κs = search needs
 
+refused-requires : tie.Need-refused-requires
+refused-requires c κs = search needs
+
 returns : tie.Need-returns
-returns c = settled-backlog (c .before .before .before .before .before .pre .0) _ (omega arith)
+returns c =
+    answered (c .refused .ensures)
+    (settled-backlog (c .before .before .before .before .before .before .pre .0) _ (omega arith))
+
+refused-requires-2 : tie.Need-refused-requires-2
+refused-requires-2 c κs = search needs
 
 returns-2 : tie.Need-returns-2
-returns-2 c = settled-no-room (c .before .before .before .before .before .before .pre .0) (omega arith) _ (omega arith)
+returns-2 c =
+    let s = c .before .before .before .before .before .before .before .pre .0 in
+    answered (c .refused2 .ensures) (settled-no-room s (omega arith) _ (omega arith))
 
 piece-requires : tie.Need-piece-requires
 piece-requires c κs = search needs
@@ -44,17 +55,22 @@ write-requires c κs =
     let start = tested .before .before .before .before .before .before in
     let s = start .pre .0 in
     let cuts = settled-cuts s (omega arith) (start .args .out .now) (omega arith) in
-    (s .left .opened .ready .sound .kept, cuts, omega (arith, settled-depth s, s .drafts .few))
+    (s .left .opened .proper .sound .kept, cuts, omega (arith, settled-depth s, s .drafts .few))
+
+taken-requires : tie.Need-taken-requires
+taken-requires c κs = search needs
 
 same-length : tie.Need-same-length
 same-length c = search needs
 
 returns-3 : tie.Need-returns-3
 returns-3 c =
-    let sent = c .before .before .before .before in
+    let wrote = c .before in
+    let sent = wrote .before .before .before .before in
     let read = sent .before .before .before in
     let s = read .before .before .before .before .before .before .before .pre .0 in
-    settled-taken s (omega arith) _ (omega arith) (c .write .ensures) (read .piece .ensures) (sent .send .ensures)
+    answered (c .taken .ensures)
+    (settled-taken s (omega arith) _ (omega arith) (wrote .write .ensures) (read .piece .ensures) (sent .send .ensures))
 
 pub on-settled-spec : {M : Type 1} → statement M
 on-settled-spec =
@@ -62,7 +78,9 @@ on-settled-spec =
     (tie.spec
     waiting-cap-requires
     longest-requires
+    refused-requires
     returns
+    refused-requires-2
     returns-2
     piece-requires
     sub-send
@@ -70,5 +88,6 @@ on-settled-spec =
     part-send-end
     send-requires
     write-requires
+    taken-requires
     same-length
     returns-3)

@@ -4,7 +4,7 @@ use native.Mathlib.Omega.{arith}
 use lib.ListN.{length, take}
 use lib.Seq.{length-take-le}
 use borrow.Author.Needs.{needs}
-use Rattle.ending.proofs.Telling.{said-finished}
+use Rattle.numbers.proofs.Told.{number-small}
 use Rattle.lines.proofs.Lined.{rest-within, ending-room}
 use Rattle.lines.proofs.telling.put_end.Statement.{statement}
 use Rattle.lines.proofs.telling.put_end.Tie as tie
@@ -12,16 +12,14 @@ use Rattle.lines.proofs.telling.put_end.Tie as tie
 finish-requires : tie.Need-finish-requires
 finish-requires c κs = search needs
 
-said-by-finish-requires : tie.Need-said-by-finish-requires
-said-by-finish-requires c κs = search needs
+number-of-requires : tie.Need-number-of-requires
+number-of-requires c κs = search needs
 
 slice-reshare-prefix-put-ending : tie.Need-slice-reshare-prefix-put-ending
 slice-reshare-prefix-put-ending c =
     let heard = c .before in
     let ended = heard .before .before .before in
-    rest-within _ _
-    (said-finished (ended .finish .result) (heard .said-by-finish .ensures .0) (heard .said-by-finish .ensures .1)
-    (ended .finish .ensures))
+    rest-within _ _ (ended .finish .ensures)
 
 slice-aggregate-put-ending : tie.Need-slice-aggregate-put-ending
 slice-aggregate-put-ending c = sym (length-take-le _ _ (slice-reshare-prefix-put-ending (c .before)))
@@ -31,9 +29,10 @@ put-ending-requires c κs =
     let heard = c .before .before in
     let ended = heard .before .before .before in
     let start = ended .before .before .before .before .before in
-    let rest = take (heard .said-by-finish .result .count) (ended .finish .last .1 .1 .0) in
+    let rest = take (ended .finish .result .count) (ended .finish .last .1 .1 .0) in
     let long = slice-aggregate-put-ending c in
-    ending-room _ rest (length (start .args .out .now)) (omega arith)
+    ending-room _ rest (length (start .args .out .now))
+    (omega (arith, heard .number-of .ensures, number-small (ended .finish .result .number)))
     (omega (arith, long, slice-reshare-prefix-put-ending (c .before))) _ _ (omega arith)
 
 same-length : tie.Need-same-length
@@ -48,11 +47,9 @@ returns c =
     let heard = put .before .before .before in
     let ended = heard .before .before .before in
     record {
-      number = heard .said-by-finish .result .number;
-      count = heard .said-by-finish .result .count;
-      finished =
-          said-finished (ended .finish .result) (heard .said-by-finish .ensures .0) (heard .said-by-finish .ensures .1)
-          (ended .finish .ensures);
+      number = heard .number-of .result;
+      count = ended .finish .result .count;
+      finished = rw (heard .number-of .ensures) (ended .finish .ensures);
       put = put .put-ending .ensures;
     }
 
@@ -61,7 +58,7 @@ put-end-spec =
     tie.close
     (tie.spec
     finish-requires
-    said-by-finish-requires
+    number-of-requires
     slice-reshare-prefix-put-ending
     slice-aggregate-put-ending
     put-ending-requires

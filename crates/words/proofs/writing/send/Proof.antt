@@ -1,4 +1,4 @@
--- `ending::sending::send` meets its contract. Assumes nothing.
+-- `words::writing::send` meets its contract. Assumes nothing.
 use mathlib.Core.Path.{_≡_, _∙_}
 use mathlib.Core.List.{List, _++_}
 use Prim.Native.Nat.{ℕ}
@@ -6,8 +6,8 @@ use native.Mathlib.Nat.{zero-add}
 use lib.ListN.{length, drop}
 use lib.Seq.{paste, take-length}
 use borrow.Author.Needs.{needs}
-use Rattle.ending.proofs.sending.send.Statement.{statement}
-use Rattle.ending.proofs.sending.send.Tie as tie
+use Rattle.words.proofs.writing.send.Statement.{statement}
+use Rattle.words.proofs.writing.send.Tie as tie
 
 copy-requires : tie.Need-copy-requires
 copy-requires c κs = search needs
