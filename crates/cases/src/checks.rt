@@ -2,6 +2,7 @@
 use crate::lines::say;
 use crate::tables::g;
 use crate::tables::put;
+use numbers::is_taken;
 ghost use Prim.Native.Nat.{_<_, _≤_};
 
 pub(crate) fn all() {
@@ -99,9 +100,10 @@ fn marker_faults() {
 fn taken(file: &[u8]) -> u64
     ensures { λ r. ⌜ r ≤ 1 ⌝ }
 {
-    match checking::check(file) {
-        checking::Verdict::Taken => 1,
-        checking::Verdict::BadTable => 0,
+    if is_taken(checking::check(file)) {
+        1
+    } else {
+        0
     }
 }
 

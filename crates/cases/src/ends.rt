@@ -8,6 +8,7 @@ use crate::steps::message;
 use crate::tables::fork;
 use crate::tables::g;
 use crate::tables::put;
+use numbers::number_of;
 use places::SIZE;
 ghost use Prim.Native.Nat.{_≤_};
 
@@ -27,15 +28,16 @@ fn asked(file: &[u8], session: &[u8; SIZE], room: usize)
     requires { ⌜ room ≤ 4 ⌝ }
 {
     let mut out = [46u8; 4];
-    let said = engine::said_by_finish(lent(file, session, &mut out[..], room));
+    let answer = lent(file, session, &mut out[..], room);
     io::write_all(1, b"finish: ");
-    told(said.number as u64, said.count as u64);
+    let name = answer.number;
+    told(number_of(name) as u64, answer.count as u64);
     io::write_all(1, &out[..]);
     io::write_all(1, b"\n");
 }
 
 // An end that is lent so much of an output.
-fn lent(file: &[u8], session: &[u8; SIZE], out: &mut [u8], room: usize) -> ending::Ending
+fn lent(file: &[u8], session: &[u8; SIZE], out: &mut [u8], room: usize) -> numbers::Answer
     requires { do ⌜ room ≤ (← ⟦out.len()⟧) ⌝ }
 {
     ending::finish(file, session, &mut out[..room])

@@ -1,6 +1,7 @@
 // What the readers of a rule file say of G.
 use crate::lines::say;
 use crate::tables::g;
+use numbers::is_taken;
 ghost use Prim.Native.Nat.{_<_};
 ghost use Rattle.table.specs.Good.{first, Good};
 ghost use Rattle.table.specs.File.{rowCount};
@@ -12,9 +13,8 @@ pub(crate) fn all() {
 
 // What the readers say of a file, if it is good.
 fn readings(file: &[u8]) {
-    match checking::check(file) {
-        checking::Verdict::BadTable => {}
-        checking::Verdict::Taken => show(file),
+    if is_taken(checking::check(file)) {
+        show(file);
     }
 }
 
@@ -52,9 +52,8 @@ fn show_body(file: &[u8])
 
 // The rows of a file, if it is good.
 pub(crate) fn list(file: &[u8]) {
-    match checking::check(file) {
-        checking::Verdict::BadTable => {}
-        checking::Verdict::Taken => show_rows(file),
+    if is_taken(checking::check(file)) {
+        show_rows(file);
     }
 }
 

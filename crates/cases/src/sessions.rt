@@ -4,6 +4,7 @@ use crate::lines::say;
 use crate::tables::g;
 use crate::tables::put;
 use crate::tables::wide;
+use numbers::is_taken;
 use places::SIZE;
 ghost use Rattle.table.specs.Good.{first, Good};
 
@@ -18,10 +19,10 @@ pub(crate) fn all() {
 
 // The number for a session: 0 where it is sound for the table, 2 where it is not.
 pub(crate) fn judged(file: &[u8], session: &[u8; SIZE]) -> u64 {
-    match checking::check(file) {
-        checking::Verdict::BadTable => 1,
-        checking::Verdict::Taken => found(file, session),
+    if !is_taken(checking::check(file)) {
+        return 1;
     }
+    found(file, session)
 }
 
 fn found(file: &[u8], session: &[u8; SIZE]) -> u64
@@ -40,10 +41,7 @@ fn begun(name: &[u8], file: &[u8]) {
 
 // The number of starting states.
 pub(crate) fn opened(file: &[u8], session: &mut [u8; SIZE]) -> u64 {
-    match session::begin(file, session) {
-        session::Opening::Taken { states } => states as u64,
-        session::Opening::BadTable => 0,
-    }
+    session::begin(file, session).count as u64
 }
 
 fn sevens(session: &[u8; SIZE]) -> u64 {

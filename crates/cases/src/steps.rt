@@ -9,6 +9,7 @@ use crate::tables::crowd;
 use crate::tables::g;
 use crate::tables::larger_crowd;
 use crate::tables::put;
+use numbers::number_of;
 use places::SIZE;
 ghost use Prim.Native.Nat.{_≤_};
 
@@ -25,11 +26,12 @@ fn took(file: &[u8], session: &mut [u8; SIZE], symbol: u8, room: usize)
     requires { ⌜ room ≤ 4 ⌝ }
 {
     let mut out = [46u8; 4];
-    let said = engine::said_by_step(lent(file, session, symbol, &mut out[..], room));
+    let answer = lent(file, session, symbol, &mut out[..], room);
     io::write_all(1, b"step ");
     io::print_decimal(1, symbol as u64);
     io::write_all(1, b": ");
-    told(said.number as u64, said.count as u64);
+    let name = answer.number;
+    told(number_of(name) as u64, answer.count as u64);
     held(session);
     io::write_all(1, &out[..]);
     io::write_all(1, b"\n");
@@ -42,7 +44,7 @@ fn lent(
     symbol: u8,
     out: &mut [u8],
     room: usize,
-) -> engine::Answer
+) -> numbers::Answer
     requires { do ⌜ room ≤ (← ⟦out.len()⟧) ⌝ }
 {
     engine::step(file, session, symbol, &mut out[..room])

@@ -1,5 +1,4 @@
--- What `check` tells, and what its parts rest on; each function's own proof stands in its folder.
+-- What the parts of `check` rest on; each function's own proof stands in its folder.
 pub mod Within
 pub mod Classes
 pub mod Heads
-pub mod Told

@@ -2,32 +2,37 @@
 mod parts;
 mod rows;
 
-ghost use Rattle.checking.specs.Calls.{Checked};
+use numbers::Answer;
+use numbers::Number;
+ghost use Rattle.numbers.specs.Numbers.{numberOf};
+ghost use Rattle.table.specs.Calls.{Judged, Checked};
 
-// What `check` answers.
-pub enum Verdict {
-    Taken,
-    BadTable,
-}
-
-// Whether a file keeps every rule. The parts are looked at in file order.
-pub fn check(file: &[u8]) -> Verdict
+// Whether a file keeps every rule.
+pub fn check(file: &[u8]) -> Answer
     ensures { λ r. ⌜ Checked (now (file .entry)) r ⌝ }
 {
+    let number = judge(file);
+    Answer { number, count: 0 }
+}
+
+// The number of the first fault. The parts are looked at in file order.
+fn judge(file: &[u8]) -> Number
+    ensures { λ r. ⌜ Judged (now (file .entry)) (numberOf r) ⌝ }
+{
     if !parts::head(file) {
-        return Verdict::BadTable;
+        return Number::BadTable;
     }
     if !parts::contents(file) {
-        return Verdict::BadTable;
+        return Number::BadTable;
     }
     if !parts::classes(file) {
-        return Verdict::BadTable;
+        return Number::BadTable;
     }
     if !parts::sets(file) {
-        return Verdict::BadTable;
+        return Number::BadTable;
     }
     if !rows::rows(file) {
-        return Verdict::BadTable;
+        return Number::BadTable;
     }
-    Verdict::Taken
+    Number::Taken
 }

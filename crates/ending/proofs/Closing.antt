@@ -23,15 +23,16 @@ use Rattle.meaning.proofs.Tests.{absent}
 use Rattle.meaning.proofs.Finish.{differ-exact, agreeing}
 use Rattle.table.specs.File.{tableOf}
 use Rattle.table.specs.Good.{first, Good}
+use Rattle.table.specs.Calls.{Judged}
 use Rattle.sets.proofs.Members.{members-exact}
 use Rattle.table.proofs.Stands.{good-table}
 use Rattle.standing.specs.Sessions.{Entry, entry, Session, trails, stands}
 use Rattle.standing.specs.Bytes.{countOf, linkAt, pieceAt, sessionOf, SoundBytes}
 use Rattle.standing.specs.Numbers.{Measured}
 use Rattle.standing.proofs.ByPlace.{has-at, at-has}
-use Rattle.stepping.specs.Promises.{Numbered, finishOn, Finished}
-use Rattle.ending.specs.Finishing.{Ready, finalAt, FirstFinal, Like, Closed, Found}
-use Rattle.stepping.proofs.Told.{numbered-one, numbered-two, numbered-by}
+use Rattle.stepping.specs.Promises.{Numbered, Proper, finishOn, Finished}
+use Rattle.ending.specs.Finishing.{finalAt, FirstFinal, Like, Closed, Found}
+use Rattle.stepping.proofs.Told.{numbered-bad, numbered-two, numbered-by}
 use Rattle.ending.proofs.Accepting.{accepted-in, accepted-out, grounded}
 
 -- the number, test by test
@@ -82,31 +83,33 @@ module _ (file session out : List ℕ) where
   abbrev by-trails : ℕ
   by-trails = finishOn file session (length out)
 
-  ended-no : {number : ℕ} → Numbered file session by-trails number → (number ≡ 0 → ⊥)
-      → Finished file session out number 0 out
-  ended-no n some =
+  ended-no : {number count : ℕ} → Numbered file session by-trails number → count ≡ 0 → (number ≡ 0 → ⊥)
+      → Finished file session out number count out
+  ended-no n e some =
       record {
         numbered = n;
-        refused = λ f. (refl, refl);
+        refused = λ f. (e, refl);
         counted = λ z. absurd (some z);
         written = λ z. absurd (some z);
       }
 
-  pub ended-bad-table : (Good first file → ⊥) → Finished file session out 1 0 out
-  ended-bad-table bad = ended-no (numbered-one file session by-trails bad) (λ z. omega arith)
+  -- what `check` refuses, finish refuses with the same answer
+  pub ended-bad-table : {number count : ℕ} → Judged file number → count ≡ 0 → (number ≡ 0 → ⊥)
+      → Finished file session out number count out
+  ended-bad-table j e some = ended-no (numbered-bad file session by-trails j some) e some
 
   pub ended-bad-session : Good first file → (SoundBytes (tableOf file) session → ⊥) → Finished file session out 2 0 out
-  ended-bad-session good bad = ended-no (numbered-two file session by-trails good bad) (λ z. omega arith)
+  ended-bad-session good bad = ended-no (numbered-two file session by-trails good bad) refl (λ z. omega arith)
 
-  module _ (ready : Ready file session) where
+  module _ (proper : Proper file session) where
     numbered : {number : ℕ} → by-trails ≡ number → Numbered file session by-trails number
     numbered {number} e =
         let tests = finishTests (tableOf file) (length out) (stands (sessionOf session)) in
-        numbered-by file session by-trails (ready .good) (ready .sound) number (sym e)
+        numbered-by file session by-trails (proper .good) (proper .sound) number (sym e)
         (λ h. absent 1 tests (omega arith) refl (e ∙ h)) (λ h. absent 2 tests (omega arith) refl (e ∙ h))
 
     ended-refused : {number : ℕ} → by-trails ≡ number → (number ≡ 0 → ⊥) → Finished file session out number 0 out
-    ended-refused e = ended-no (numbered e)
+    ended-refused e = ended-no (numbered e) refl
 
     pub ended-unclosed : (byte session 0 ≡ 0 → ⊥) → Finished file session out 11 0 out
     ended-unclosed n =
@@ -114,8 +117,8 @@ module _ (file session out : List ℕ) where
 
 -- what waits, link by link
 module _ {file session : List ℕ} {finals : ℕ} (c : Closed file session finals) where
-  abbrev ready : Ready file session
-  ready = c .ready
+  abbrev proper : Proper file session
+  proper = c .proper
 
   abbrev T : Table
   T = tableOf file
@@ -127,16 +130,16 @@ module _ {file session : List ℕ} {finals : ℕ} (c : Closed file session final
   W = accepted T (trails S)
 
   rules : GoodTable edition1 T
-  rules = good-table {E = first} (omega arith) file (ready .small) (ready .good)
+  rules = good-table {E = first} (omega arith) file (proper .small) (proper .good)
 
   state-small : (i : ℕ) → i < countOf session → linkAt session i .here .state < 64
   state-small i l =
-      omega (arith, rules .states .1, ready .sound .sound .ranges _ _ (has-at session i l) .state)
+      omega (arith, rules .states .1, proper .sound .sound .ranges _ _ (has-at session i l) .state)
 
   piece-in : (i : ℕ) → i < countOf session → finalAt finals session i ≡ true → pieceAt session i among W
   piece-in i l f =
       let h = has-at session i l in
-      let g = grounded T S (c .flat) (ready .sound .sound .lies) (linkAt session i) (pieceAt session i) h in
+      let g = grounded T S (c .flat) (proper .sound .sound .lies) (linkAt session i) (pieceAt session i) h in
       let q = linkAt session i .here .state in
       let low = Memᴰ·cast (ap (λ (k : Link). entry k (pieceAt session i)) (sym g)) h in
       accepted-in T S (c .flat) q (pieceAt session i) low
@@ -158,7 +161,7 @@ module _ {file session : List ℕ} {finals : ℕ} (c : Closed file session final
   pub ended-not-final : (out : List ℕ) {i : ℕ} → FirstFinal finals session i → i ≡ countOf session
       → Finished file session out 12 0 out
   ended-not-final out {i} f e =
-      ended-refused file session out ready (not-final T (length out) (stands S) (c .flat) none) (λ z. omega arith)
+      ended-refused file session out proper (not-final T (length out) (stands S) (c .flat) none) (λ z. omega arith)
     where
       none : (w : Word) → w among W → ⊥
       none w m =
@@ -168,7 +171,7 @@ module _ {file session : List ℕ} {finals : ℕ} (c : Closed file session final
 -- where a link accepts, the first
 module _ {file session : List ℕ} {finals i : ℕ} (f : Found file session finals i) where
   pub found-measured : Measured session
-  found-measured = record { count = f .closed .ready .sound .kept .count; short = f .closed .ready .sound .kept .short }
+  found-measured = record { count = f .closed .proper .sound .kept .count; short = f .closed .proper .sound .kept .short }
 
   abbrev x : Word
   x = pieceAt session i
@@ -206,13 +209,13 @@ module _ {file session : List ℕ} {finals i : ℕ} (f : Found file session fina
   module _ (out : List ℕ) where
     pub ended-ambiguous : (Like finals session i → ⊥) → Finished file session out 13 0 out
     ended-ambiguous n =
-        ended-refused file session out (f .closed .ready)
+        ended-refused file session out (f .closed .proper)
         (ambiguous (tableOf file) (length out) m (f .closed .flat) waits (λ h. n (like-all h))) (λ z. omega arith)
 
     module _ (k : Like finals session i) where
       pub ended-no-room : length out < length x → Finished file session out 10 0 out
       ended-no-room l =
-          ended-refused file session out (f .closed .ready)
+          ended-refused file session out (f .closed .proper)
           (no-room (tableOf file) (length out) m (f .closed .flat) waits (all-like k) l) (λ z. omega arith)
 
       pub ended-taken : {rest out′ : List ℕ} → rest ≡ x → length rest ≤ length out
@@ -221,7 +224,7 @@ module _ {file session : List ℕ} {finals i : ℕ} (f : Found file session fina
           let c : common (accepted (tableOf file) (m .waiting)) ≡ rest = common-all _ waits (all-like k) ∙ sym e in
           let n = taken (tableOf file) (length out) m (f .closed .flat) waits (all-like k) (rw e at l) in
           record {
-            numbered = numbered file session out (f .closed .ready) n;
+            numbered = numbered file session out (f .closed .proper) n;
             refused = λ h. absurd (h refl);
             counted = λ z. ap length (sym c);
             written = λ z. w ∙ ap (λ (v : Word). v ++ drop (length rest) out) (sym c);

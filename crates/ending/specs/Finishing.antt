@@ -3,18 +3,11 @@ use mathlib.Core.Path.{_≡_}
 use mathlib.Core.Bool.{Bool, true, false}
 use mathlib.Core.List.{List}
 use Prim.Native.Nat.{ℕ, _<_, _≤_}
-use Rattle.words.specs.Words.{Bytes}
 use Rattle.words.specs.LittleEndian.{byte}
 use Rattle.sets.specs.Sets.{isIn, members}
 use Rattle.table.specs.File.{tableOf}
-use Rattle.table.specs.Good.{first, Good}
-use Rattle.standing.specs.Bytes.{countOf, linkAt, pieceAt, SoundBytes}
-
--- the file is good, of bytes as its type says, and the session is sound for its table
-pub record Ready (file session : List ℕ) : Type 0 where
-  pub good : Good first file
-  pub small : Bytes file
-  pub sound : SoundBytes (tableOf file) session
+use Rattle.standing.specs.Bytes.{countOf, linkAt, pieceAt}
+use Rattle.stepping.specs.Promises.{Proper}
 
 -- the state of a link is in a set
 abbrev pub finalAt : ℕ → List ℕ → ℕ → Bool
@@ -36,7 +29,7 @@ pub record Like (finals : ℕ) (session : List ℕ) (i : ℕ) : Type 0 where
 
 -- the session is at depth 0, and this is the set of final states
 pub record Closed (file session : List ℕ) (finals : ℕ) : Type 0 where
-  pub ready : Ready file session
+  pub proper : Proper file session
   pub flat : byte session 0 ≡ 0
   pub are : members finals ≡ tableOf file .final
 

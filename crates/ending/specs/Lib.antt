@@ -1,3 +1,2 @@
--- What the call `finish` promises; for proofs only, what its parts ask of each other.
-pub mod Calls
+-- For proofs only: what the parts of `finish` ask of each other.
 pub mod Finishing

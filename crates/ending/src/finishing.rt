@@ -1,83 +1,78 @@
 // The end of a message: whether it is accepted, and what still waits. No session is changed.
-use crate::sending;
+use numbers::Answer;
+use numbers::Number;
+use numbers::is_taken;
+use numbers::refused;
+use numbers::taken;
 use places::SIZE;
 use words::same;
+use words::send;
 ghost use Prim.Native.Nat.{_<_};
 ghost use Rattle.words.specs.Words.{Bytes};
 ghost use Rattle.words.specs.Lists.{Exact};
 ghost use Rattle.table.specs.Good.{first, Good};
 ghost use Rattle.standing.specs.Bytes.{countOf};
 ghost use Rattle.standing.specs.Numbers.{Measured};
-ghost use Rattle.ending.specs.Calls.{Ended};
-ghost use Rattle.ending.specs.Finishing.{Ready, FirstFinal, LikeAt, Like, Found};
-
-// What `finish` answers.
-pub enum Ending {
-    Taken { count: usize },
-    BadTable,
-    BadSession,
-    Unclosed,
-    NotFinal,
-    Ambiguous,
-    NoRoom,
-}
+ghost use Rattle.stepping.specs.Promises.{Proper, Ended};
+ghost use Rattle.ending.specs.Finishing.{FirstFinal, LikeAt, Like, Found};
 
 // Ends a message: writes what still waits, if all runs that accept agree on it.
-pub fn finish(file: &[u8], session: &[u8; SIZE], out: &mut [u8]) -> Ending
+pub fn finish(file: &[u8], session: &[u8; SIZE], out: &mut [u8]) -> Answer
     ensures { λ r. ⌜
         Ended (now (file .entry)) (now (session .entry)) (now (out .entry)) r (now (out .exit)) ⌝ }
 {
-    match checking::check(file) {
-        checking::Verdict::BadTable => Ending::BadTable,
-        checking::Verdict::Taken => of_table(file, session, out),
+    let checked = checking::check(file);
+    if !is_taken(checked) {
+        return checked;
     }
+    of_table(file, session, out)
 }
 
 // With a good table.
-fn of_table(file: &[u8], session: &[u8; SIZE], out: &mut [u8]) -> Ending
+fn of_table(file: &[u8], session: &[u8; SIZE], out: &mut [u8]) -> Answer
     requires { ⌜ (Good first (now file)) × Bytes (now file) ⌝ }
     ensures { λ r. ⌜
         Ended (now (file .entry)) (now (session .entry)) (now (out .entry)) r (now (out .exit)) ⌝ }
 {
     if !session::sound(file, session) {
-        return Ending::BadSession;
+        return refused(Number::BadSession);
     }
     of_session(file, session, out)
 }
 
 // And a sound session: whether it is closed, and where the first run that accepts is.
-fn of_session(file: &[u8], session: &[u8; SIZE], out: &mut [u8]) -> Ending
-    requires { ⌜ Ready (now file) (now session) ⌝ }
+fn of_session(file: &[u8], session: &[u8; SIZE], out: &mut [u8]) -> Answer
+    requires { ⌜ Proper (now file) (now session) ⌝ }
     ensures { λ r. ⌜
         Ended (now (file .entry)) (now (session .entry)) (now (out .entry)) r (now (out .exit)) ⌝ }
 {
     if places::depth(session) != 0 {
-        return Ending::Unclosed;
+        return refused(Number::Unclosed);
     }
     let finals = table::final_set(file);
     let i = first_final(finals, session);
     if i == places::count(session) {
-        return Ending::NotFinal;
+        return refused(Number::NotFinal);
     }
     of_link(file, session, out, finals, i)
 }
 
 // And a link that accepts, the first: whether all others that accept have the same waiting.
-fn of_link(file: &[u8], session: &[u8; SIZE], out: &mut [u8], finals: u64, i: usize) -> Ending
+fn of_link(file: &[u8], session: &[u8; SIZE], out: &mut [u8], finals: u64, i: usize) -> Answer
     requires { ⌜ Found (now file) (now session) finals i ⌝ }
     ensures { λ r. ⌜
         Ended (now (file .entry)) (now (session .entry)) (now (out .entry)) r (now (out .exit)) ⌝ }
 {
     if !like(finals, session, i) {
-        return Ending::Ambiguous;
+        return refused(Number::Ambiguous);
     }
     let rest = places::piece(session, i);
     let count = rest.len();
     if out.len() < count {
-        return Ending::NoRoom;
+        return refused(Number::NoRoom);
     }
-    sending::send(out, rest);
-    Ending::Taken { count }
+    send(out, rest);
+    taken(count)
 }
 
 // The first link whose state is in a set; the number of links where there is none.

@@ -24,8 +24,7 @@ use Rattle.standing.specs.Bytes.{countOf, linkAt, entryAt, sessionOf}
 use Rattle.stepping.specs.Stepping.{grow, keep, kept, shaken}
 use Rattle.drafting.specs.Drafts.{draftRoom, slotOf, draftIn, draftsOf, Drafts, Plain, AllAt, shakenOver}
 use Rattle.growing.specs.Growing.{Gathered, Usable, Fitting}
-use Rattle.stepping.specs.Promises.{Stepped}
-use Rattle.ending.specs.Finishing.{Ready}
+use Rattle.stepping.specs.Promises.{Proper, Stepped}
 use Rattle.engine.specs.Tests.{Opened, Grew, Left}
 use Rattle.engine.proofs.Tested.{open-call, open-return, open-internal, unknown, unopened, too-deep, Moves}
 use Rattle.engine.proofs.Tested.{Fits, no-run, crowded, conflicting}
@@ -36,12 +35,12 @@ use Rattle.stepping.proofs.Shake.{kept-fewer}
 use Rattle.stepping.proofs.Bounds.{deeper-within, grow-small, grow-short}
 use Rattle.stepping.proofs.Told.{told-refused}
 
-module _ {file session : List ℕ} (ready : Ready file session) (symbol : ℕ) where
+module _ {file session : List ℕ} (proper : Proper file session) (symbol : ℕ) where
   -- by class, with the depth as it was read
   pub asked-unused : (out : List ℕ) → tableOf file .class symbol ≡ unused
       → Stepped file session symbol out 3 0 session out
   asked-unused out k =
-      told-refused file session symbol out (ready .good) (ready .sound)
+      told-refused file session symbol out (proper .good) (proper .sound)
       (unknown (tableOf file) (sessionOf session) symbol (length out) k) (λ z. omega arith)
 
   module _ (depth : ℕ) (is : depth ≡ byte session 0) where
@@ -49,31 +48,31 @@ module _ {file session : List ℕ} (ready : Ready file session) (symbol : ℕ) w
         → Stepped file session symbol out 5 0 session out
     asked-deep out k e =
         let d : sessionOf session .depth ≡ tableOf file .depthCap = omega arith in
-        told-refused file session symbol out (ready .good) (ready .sound)
+        told-refused file session symbol out (proper .good) (proper .sound)
         (too-deep (tableOf file) (sessionOf session) symbol (length out) k d) (λ z. omega arith)
 
     pub asked-closed : (out : List ℕ) → tableOf file .class symbol ≡ return → depth ≡ 0
         → Stepped file session symbol out 4 0 session out
     asked-closed out k e =
         let d : sessionOf session .depth ≡ 0 = omega arith in
-        told-refused file session symbol out (ready .good) (ready .sound)
+        told-refused file session symbol out (proper .good) (proper .sound)
         (unopened (tableOf file) (sessionOf session) symbol (length out) k d) (λ z. omega arith)
 
     pub opened-call : tableOf file .class symbol ≡ call → (depth ≡ tableOf file .depthCap → ⊥)
         → Opened file session symbol (depth + 1)
     opened-call k n =
         let o = open-call (tableOf file) (sessionOf session) symbol k (λ e. n (omega arith)) in
-        record { ready = ready; to = o; is = rw k (omega arith) }
+        record { proper = proper; to = o; is = rw k (omega arith) }
 
     pub opened-return : tableOf file .class symbol ≡ return → (depth ≡ 0 → ⊥) → Opened file session symbol (depth - 1)
     opened-return k n =
         let o = open-return (tableOf file) (sessionOf session) symbol k (λ e. n (omega arith)) in
-        record { ready = ready; to = o; is = rw k (omega arith) }
+        record { proper = proper; to = o; is = rw k (omega arith) }
 
     pub opened-internal : tableOf file .class symbol ≡ internal → Opened file session symbol depth
     opened-internal k =
         let o = open-internal (tableOf file) (sessionOf session) symbol k in
-        record { ready = ready; to = o; is = rw k (omega arith) }
+        record { proper = proper; to = o; is = rw k (omega arith) }
 
 module _ {file session work order : List ℕ} {symbol depth count : ℕ} {clash : Bool}
     (g : Grew file session symbol depth work order count clash) where
@@ -83,8 +82,8 @@ module _ {file session work order : List ℕ} {symbol depth count : ℕ} {clash 
   abbrev S : Session
   S = sessionOf session
 
-  abbrev ready : Ready file session
-  ready = g .opened .ready
+  abbrev proper : Proper file session
+  proper = g .opened .proper
 
   -- all that follows is at the new depth
   pub grew-level : AllAt depth (draftsOf work order count)
@@ -103,7 +102,7 @@ module _ {file session work order : List ℕ} {symbol depth count : ℕ} {clash 
       → Stepped file session symbol out 7 0 session out
   grew-crowded out l =
       let n = crowded T S symbol (length out) moves (rw over-is at l) in
-      told-refused file session symbol out (ready .good) (ready .sound) n (λ z. omega arith)
+      told-refused file session symbol out (proper .good) (proper .sound) n (λ z. omega arith)
 
   module _ {work′ order′ : List ℕ} {n : ℕ} (drafts : Drafts work′ order′ n)
       (are : draftsOf work′ order′ n ≡ shakenOver session depth (draftsOf work order count)) where
@@ -115,7 +114,7 @@ module _ {file session work order : List ℕ} {symbol depth count : ℕ} {clash 
 
     pub grew-conflict : (out : List ℕ) → clash ≡ true → Stepped file session symbol out 8 0 session out
     grew-conflict out c =
-        told-refused file session symbol out (ready .good) (ready .sound)
+        told-refused file session symbol out (proper .good) (proper .sound)
         (conflicting T S symbol (length out) fits (sym (g .odds) ∙ c)) (λ z. omega arith)
 
     pub grew-left : clash ≡ false → Left file session symbol depth work′ order′ n
@@ -128,8 +127,8 @@ module _ {file session work order : List ℕ} {symbol depth count : ℕ} {clash 
 
 -- what growing is asked, and what its answers say
 module _ {file session : List ℕ} {symbol depth : ℕ} (o : Opened file session symbol depth) where
-  abbrev R : Ready file session
-  R = o .ready
+  abbrev R : Proper file session
+  R = o .proper
 
   rules : GoodTable edition1 (tableOf file)
   rules = good-table {E = first} (omega arith) file (R .small) (R .good)

@@ -19,13 +19,12 @@ use Rattle.standing.specs.Bytes.{pieceRoom, linkFrom, sessionOf, bytesOf}
 use Rattle.standing.specs.Numbers.{seatFrom, footFrom}
 use Rattle.standing.proofs.Soundly.{lies-rooted}
 use Rattle.standing.proofs.RoundTrip.{piece-short}
-use Rattle.stepping.specs.Promises.{Stepped}
+use Rattle.stepping.specs.Promises.{Proper, Stepped}
 use Rattle.stepping.specs.Stepping.{seat, grow, keep, kept, shaken, push, base, cut, stepped, sent, linkNumber}
 use Rattle.drafting.specs.Drafts.{slotStart, lengthIn, pieceIn, slotOf, draftIn, draftsOf, footNo, seatNo, Reads}
 use Rattle.drafting.specs.Drafts.{Holds, CommonOn, Short, Pushed}
 use Rattle.drafting.specs.Cutting.{cutDraft, cutDrafts, Handed, CutTo, Weighable}
 use Rattle.engine.specs.Writing.{Cuts, cutSession}
-use Rattle.ending.specs.Finishing.{Ready}
 use Rattle.engine.specs.Tests.{LeftOf, Left, Settled}
 use Rattle.stepping.proofs.Keep.{keep-linked}
 use Rattle.stepping.proofs.Shake.{shaken-rises, shaken-lies, kept-fewer}
@@ -49,14 +48,14 @@ module _ {file session : List ℕ} {symbol depth : ℕ} (l : LeftOf file session
   abbrev H : Session
   H = shaken (kept T S symbol)
 
-  abbrev ready : Ready file session
-  ready = l .opened .ready
+  abbrev proper : Proper file session
+  proper = l .opened .proper
 
   abbrev ok : Sound T S
-  ok = ready .sound .sound
+  ok = proper .sound .sound
 
   rules : GoodTable edition1 T
-  rules = good-table {E = first} (omega arith) file (ready .small) (ready .good)
+  rules = good-table {E = first} (omega arith) file (proper .small) (proper .good)
 
   agrees : Agrees T S symbol
   agrees =
@@ -214,7 +213,7 @@ module _ {file session work order cuts : List ℕ} {symbol depth n slot long : �
   pub settled-backlog : (out : List ℕ) → tableOf file .waitingCap < longest (cutDrafts work order cuts n)
       → Stepped file session symbol out 9 0 session out
   settled-backlog out lt =
-      told-refused file session symbol out (ready m .good) (ready m .sound)
+      told-refused file session symbol out (proper m .good) (proper m .sound)
       (backlog (T m) (S m) symbol (length out) (agrees m) (rw (s .are) at lt)) (λ z. omega arith)
 
   module _ (le : longest (cutDrafts work order cuts n) ≤ tableOf file .waitingCap) where
@@ -224,7 +223,7 @@ module _ {file session work order cuts : List ℕ} {symbol depth n slot long : �
     pub settled-no-room : (out : List ℕ) → length out < long → Stepped file session symbol out 10 0 session out
     settled-no-room out lt =
         let e = settled-long in
-        told-refused file session symbol out (ready m .good) (ready m .sound)
+        told-refused file session symbol out (proper m .good) (proper m .sound)
         (no-room (T m) (S m) symbol (length out) waits (omega arith)) (λ z. omega arith)
 
     module _ (out : List ℕ) (room : long ≤ length out) where
@@ -264,7 +263,7 @@ module _ {file session work order cuts : List ℕ} {symbol depth n slot long : �
           λ i. record { depth = m .opened .is i; entries = s .are i } in
           let none : long - 0 ≡ long = omega arith in
           let whole = ap (λ (k : ℕ). take k piece) none ∙ ap (take long) g in
-          told-taken file session symbol out (ready m .good) (ready m .sound) (ready m .small) is-taken settled-long
+          told-taken file session symbol out (proper m .good) (proper m .sound) (proper m .small) is-taken settled-long
           (e ∙ ap bytesOf is)
           (f
           ∙ ap (λ (w : Word). w ++ drop (length w) out) (whole ∙ s .is)

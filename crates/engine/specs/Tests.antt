@@ -14,7 +14,7 @@ use Rattle.standing.specs.Bytes.{linkFrom, sessionOf}
 use Rattle.stepping.specs.Stepping.{grow, keep, conflict, kept, shaken, stepped, sent}
 use Rattle.drafting.specs.Drafts.{slotStart, draftRoom, lengthIn, pieceIn, slotOf, draftsOf, Drafts}
 use Rattle.drafting.specs.Cutting.{cutDrafts}
-use Rattle.ending.specs.Finishing.{Ready}
+use Rattle.stepping.specs.Promises.{Proper}
 
 -- the symbol is known, and neither closes nor opens too much
 pub record Open (T : Table) (S : Session) (a : ℕ) : Type 0 where
@@ -24,7 +24,7 @@ pub record Open (T : Table) (S : Session) (a : ℕ) : Type 0 where
 
 -- all this, and which depth follows
 pub record Opened (file session : List ℕ) (a depth : ℕ) : Type 0 where
-  pub ready : Ready file session
+  pub proper : Proper file session
   pub to : Open (tableOf file) (sessionOf session) a
   pub is : depth ≡ deeper (tableOf file .class a) (sessionOf session .depth)
 

@@ -8,28 +8,18 @@ use drafting::slots;
 use drafting::slots::WORK;
 use growing::growth;
 use links::levels::LEVELS;
+use numbers::Answer;
+use numbers::Number;
+use numbers::is_taken;
+use numbers::refused;
+use numbers::taken;
 use places::SIZE;
+use words::send;
 ghost use Rattle.words.specs.Words.{Bytes};
 ghost use Rattle.table.specs.Good.{first, Good};
-ghost use Rattle.ending.specs.Finishing.{Ready};
-ghost use Rattle.engine.specs.Calls.{Answered};
+ghost use Rattle.stepping.specs.Promises.{Proper, Answered};
 ghost use Rattle.drafting.specs.Drafts.{Ranked};
 ghost use Rattle.engine.specs.Tests.{Opened, Grew, Left, Settled};
-
-// What `step` answers.
-pub enum Answer {
-    Taken { count: usize },
-    BadTable,
-    BadSession,
-    UnknownSymbol,
-    Unopened,
-    TooDeep,
-    NoRun,
-    Crowded,
-    Conflict,
-    Backlog,
-    NoRoom,
-}
 
 // Takes one symbol.
 pub fn step(file: &[u8], session: &mut [u8; SIZE], symbol: u8, out: &mut [u8]) -> Answer
@@ -53,10 +43,11 @@ pub fn step_in(
         Answered (now (file .entry)) (now (session .entry)) symbol (now (out .entry)) r
         (now (session .exit)) (now (out .exit)) ⌝ }
 {
-    match checking::check(file) {
-        checking::Verdict::BadTable => Answer::BadTable,
-        checking::Verdict::Taken => on_table(file, session, symbol, out, work),
+    let checked = checking::check(file);
+    if !is_taken(checked) {
+        return checked;
     }
+    on_table(file, session, symbol, out, work)
 }
 
 // With a good table.
@@ -73,7 +64,7 @@ fn on_table(
         (now (session .exit)) (now (out .exit)) ⌝ }
 {
     if !session::sound(file, session) {
-        return Answer::BadSession;
+        return refused(Number::BadSession);
     }
     on_session(file, session, symbol, out, work)
 }
@@ -86,23 +77,23 @@ fn on_session(
     out: &mut [u8],
     work: &mut [u8; WORK],
 ) -> Answer
-    requires { ⌜ Ready (now file) (now session) ⌝ }
+    requires { ⌜ Proper (now file) (now session) ⌝ }
     ensures { λ r. ⌜
         Answered (now (file .entry)) (now (session .entry)) symbol (now (out .entry)) r
         (now (session .exit)) (now (out .exit)) ⌝ }
 {
     let depth = places::depth(session);
     match table::class_of(file, symbol) {
-        table::Class::Unused => Answer::UnknownSymbol,
+        table::Class::Unused => refused(Number::UnknownSymbol),
         table::Class::Call => {
             if depth == table::depth_cap(file) {
-                return Answer::TooDeep;
+                return refused(Number::TooDeep);
             }
             on_open(file, session, symbol, depth + 1, out, work)
         }
         table::Class::Return => {
             if depth == 0 {
-                return Answer::Unopened;
+                return refused(Number::Unopened);
             }
             on_open(file, session, symbol, depth - 1, out, work)
         }
@@ -126,10 +117,10 @@ fn on_open(
 {
     let mut order = [0u8; 64];
     match growth::grow(file, session, symbol, work, &mut order) {
-        growth::Growth::Full => Answer::Crowded,
+        growth::Growth::Full => refused(Number::Crowded),
         growth::Growth::Made { count, clash } => {
             if count == 0 {
-                return Answer::NoRun;
+                return refused(Number::NoRun);
             }
             on_grown(
                 file,
@@ -165,10 +156,10 @@ fn on_grown(
 {
     let mut ends = [0u8; LEVELS];
     match lower::shake(session, depth, work, order, &mut ends, count) {
-        lower::Shaken::Full => Answer::Crowded,
+        lower::Shaken::Full => refused(Number::Crowded),
         lower::Shaken::Drafted { count: n } => {
             if clash {
-                return Answer::Conflict;
+                return refused(Number::Conflict);
             }
             on_shaken(file, session, symbol, depth, out, work, order, n, &ends)
         }
@@ -239,13 +230,13 @@ fn on_settled(
         (now (session .exit)) (now (out .exit)) ⌝ }
 {
     if table::waiting_cap(file) < cutting::longest(work, order, n, ends, cuts) {
-        return Answer::Backlog;
+        return refused(Number::Backlog);
     }
     if out.len() < long {
-        return Answer::NoRoom;
+        return refused(Number::NoRoom);
     }
     let piece = slots::piece(work, slot);
-    ending::send(out, &piece[0..long]);
+    send(out, &piece[0..long]);
     write::write(session, work, order, n, cuts, depth);
-    Answer::Taken { count: long }
+    taken(long)
 }

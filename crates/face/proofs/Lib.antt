@@ -1,2 +1,2 @@
--- The promises of check, begin and join, by the number and the values that their answers stand for.
+-- The promise of join, by the number and the values that its answer stands for.
 mod Said

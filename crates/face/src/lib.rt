@@ -1,15 +1,12 @@
 // The calls for programs in C and Rust: each answers the scope's number, and what else a call gives is written where
 // the caller says.
-use checking::Verdict;
 use engine::WORK;
-use engine::said_by_finish;
-use engine::said_by_step;
 use joiner::Joining;
+use numbers::number_of;
 use places::SIZE;
-use session::Opening;
 ghost use mathlib.Core.Path.{_≡_};
 ghost use Rattle.table.specs.Calls.{Judged};
-ghost use Rattle.session.specs.Calls.{numberOf, statesOf, Begins};
+ghost use Rattle.session.specs.Calls.{Begins};
 ghost use Rattle.stepping.specs.Promises.{Stepped, Finished};
 ghost use Rattle.joining.specs.Promises.{Joins};
 ghost use Rattle.joiner.specs.Calls.{numberOf as joiningNumber, whichOf, countOf};
@@ -18,10 +15,8 @@ ghost use Rattle.joiner.specs.Calls.{numberOf as joiningNumber, whichOf, countO
 pub extern "C" fn jermanuts_check(file: &[u8]) -> u32
     ensures { λ r. ⌜ Judged (now (file .entry)) r ⌝ }
 {
-    match checking::check(file) {
-        Verdict::Taken => 0,
-        Verdict::BadTable => 1,
-    }
+    let number = checking::check(file).number;
+    number_of(number)
 }
 
 #[no_mangle]
@@ -29,9 +24,10 @@ pub extern "C" fn jermanuts_begin(file: &[u8], session: &mut [u8; SIZE], states:
     ensures { λ r. ⌜
         Begins (now (file .entry)) (now (session .entry)) r (now (states .exit)) (now (session .exit)) ⌝ }
 {
-    let opening = session::begin(file, session);
-    *states = states_of(opening);
-    opening_number(opening)
+    let answer = session::begin(file, session);
+    *states = answer.count as u32;
+    let number = answer.number;
+    number_of(number)
 }
 
 #[no_mangle]
@@ -46,9 +42,10 @@ pub extern "C" fn jermanuts_step(
         Stepped (now (file .entry)) (now (session .entry)) symbol (now (out .entry)) r (now (count .exit))
         (now (session .exit)) (now (out .exit)) ⌝ }
 {
-    let said = said_by_step(engine::step(file, session, symbol, out));
-    *count = said.count;
-    said.number as u32
+    let answer = engine::step(file, session, symbol, out);
+    *count = answer.count;
+    let number = answer.number;
+    number_of(number)
 }
 
 #[no_mangle]
@@ -64,9 +61,10 @@ pub extern "C" fn jermanuts_step_in(
         Stepped (now (file .entry)) (now (session .entry)) symbol (now (out .entry)) r (now (count .exit))
         (now (session .exit)) (now (out .exit)) ⌝ }
 {
-    let said = said_by_step(engine::step_in(file, session, symbol, out, work));
-    *count = said.count;
-    said.number as u32
+    let answer = engine::step_in(file, session, symbol, out, work);
+    *count = answer.count;
+    let number = answer.number;
+    number_of(number)
 }
 
 #[no_mangle]
@@ -80,9 +78,10 @@ pub extern "C" fn jermanuts_finish(
         Finished (now (file .entry)) (now (session .entry)) (now (out .entry)) r (now (count .exit))
         (now (out .exit)) ⌝ }
 {
-    let said = said_by_finish(ending::finish(file, session, out));
-    *count = said.count;
-    said.number as u32
+    let answer = ending::finish(file, session, out);
+    *count = answer.count;
+    let number = answer.number;
+    number_of(number)
 }
 
 #[no_mangle]
@@ -101,24 +100,6 @@ pub extern "C" fn jermanuts_join(
     *which = said.which;
     *count = said.count;
     said.number
-}
-
-fn opening_number(opening: Opening) -> u32
-    ensures { λ r. ⌜ r ≡ numberOf opening ⌝ }
-{
-    match opening {
-        Opening::Taken { states: _ } => 0,
-        Opening::BadTable => 1,
-    }
-}
-
-fn states_of(opening: Opening) -> u32
-    ensures { λ r. ⌜ r ≡ statesOf opening ⌝ }
-{
-    match opening {
-        Opening::Taken { states } => states,
-        Opening::BadTable => 0,
-    }
 }
 
 // The number given back, the table that is bad (0: none), and the byte count.

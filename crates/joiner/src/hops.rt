@@ -1,9 +1,9 @@
 // Two tables become one: the tests in their order, each after the work that it needs. The output is written only once
 // all have passed.
 use crate::gathering;
-use checking::Verdict;
 use laying::Sizes;
 use nesting::nests;
+use numbers::is_taken;
 use shelf::ROOM;
 use shelf::Shelf;
 ghost use Rattle.words.specs.Lists.{Exact};
@@ -30,10 +30,10 @@ pub fn join(first: &[u8], second: &[u8], out: &mut [u8]) -> Joining
     ensures { λ r. ⌜
         JoinedBy (now (first .entry)) (now (second .entry)) (now (out .entry)) r (now (out .exit)) ⌝ }
 {
-    match checking::check(first) {
-        Verdict::BadTable => Joining::BadTable { which: 1 },
-        Verdict::Taken => on_first(first, second, out),
+    if !is_taken(checking::check(first)) {
+        return Joining::BadTable { which: 1 };
     }
+    on_first(first, second, out)
 }
 
 // With a good first table.
@@ -42,10 +42,10 @@ fn on_first(first: &[u8], second: &[u8], out: &mut [u8]) -> Joining
     ensures { λ r. ⌜
         JoinedBy (now (first .entry)) (now (second .entry)) (now (out .entry)) r (now (out .exit)) ⌝ }
 {
-    match checking::check(second) {
-        Verdict::BadTable => Joining::BadTable { which: 2 },
-        Verdict::Taken => on_both(first, second, out),
+    if !is_taken(checking::check(second)) {
+        return Joining::BadTable { which: 2 };
     }
+    on_both(first, second, out)
 }
 
 // And a good second one: whether they nest, and whether the first's words and the pairs of states are few enough.

@@ -2,8 +2,7 @@
 use crate::text::put_ending;
 use crate::text::put_line;
 use engine::WORK;
-use engine::said_by_finish;
-use engine::said_by_step;
+use numbers::number_of;
 use places::SIZE;
 ghost use Prim.Native.Nat.{_+_, _*_, _≤_};
 ghost use lib.ListN.{length};
@@ -32,9 +31,9 @@ pub fn put_symbol(
         (now (session .exit)) (now (out .exit)) (now (text .exit)) ⌝ }
 {
     let answer = engine::step_in(file, session, symbol, out, work);
-    let said = said_by_step(answer);
-    let number = said.number;
-    let count = said.count;
+    let name = answer.number;
+    let number = number_of(name);
+    let count = answer.count;
     let depth = places::depth(session);
     let next = put_line(text, at, place, symbol, number, depth, &out[..count]);
     Tried {
@@ -56,8 +55,9 @@ pub fn put_end(
         EndTold (now (file .entry)) (now (session .entry)) (now (out .entry)) (now (text .entry)) at r
         (now (out .exit)) (now (text .exit)) ⌝ }
 {
-    let said = said_by_finish(ending::finish(file, session, out));
-    let number = said.number;
-    let count = said.count;
+    let answer = ending::finish(file, session, out);
+    let name = answer.number;
+    let number = number_of(name);
+    let count = answer.count;
     put_ending(text, at, number, &out[..count])
 }

@@ -83,7 +83,7 @@ pub fn put_line(
     at: usize,
     place: u64,
     symbol: u8,
-    number: u8,
+    number: u32,
     depth: usize,
     bytes: &[u8],
 ) -> usize
@@ -99,7 +99,7 @@ pub fn put_line(
 }
 
 // The line of finish.
-pub fn put_ending(text: &mut [u8], at: usize, number: u8, bytes: &[u8]) -> usize
+pub fn put_ending(text: &mut [u8], at: usize, number: u32, bytes: &[u8]) -> usize
     requires { ⌜ Room (now text) at (ending number (now bytes)) ⌝ }
     ensures { λ r. ⌜
         Appended (now (text .entry)) at (ending number (now (bytes .entry))) r (now (text .exit)) ⌝ }

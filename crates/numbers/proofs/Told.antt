@@ -1,7 +1,9 @@
--- Each number has one name, so that an answer is known by its number and its count. Assumes nothing.
+-- Each number is a byte and has one name, so that an answer is known by its number and its count. Assumes nothing.
 use mathlib.Core.Path.{_≡_, refl}
 use mathlib.Core.List.{List, _∷_, []}
 use mathlib.Mathlib.Logic.Function.Defs.{LeftInverse·injective}
+use Prim.Native.Nat.{_<_}
+use native.Mathlib.Omega.{arith}
 use lib.ListN.{getD}
 use Rattle.numbers.specs.Numbers.{numberOf}
 use Rattle.numbers.specs.declared.Answer.{Answer}
@@ -16,27 +18,30 @@ names =
     Taken ∷ BadTable ∷ BadSession ∷ UnknownSymbol ∷ Unopened ∷ TooDeep ∷ NoRun ∷ Crowded ∷ Conflict ∷ Backlog ∷ NoRoom
     ∷ Unclosed ∷ NotFinal ∷ Ambiguous ∷ NotNested ∷ TooLarge ∷ []
 
-named : (n : Number) → getD names (numberOf n) Taken ≡ n
-named Taken = refl
-named BadTable = refl
-named BadSession = refl
-named UnknownSymbol = refl
-named Unopened = refl
-named TooDeep = refl
-named NoRun = refl
-named Crowded = refl
-named Conflict = refl
-named Backlog = refl
-named NoRoom = refl
-named Unclosed = refl
-named NotFinal = refl
-named Ambiguous = refl
-named NotNested = refl
-named TooLarge = refl
+named : (n : Number) → (getD names (numberOf n) Taken ≡ n) × (numberOf n < 256)
+named Taken = (refl, omega arith)
+named BadTable = (refl, omega arith)
+named BadSession = (refl, omega arith)
+named UnknownSymbol = (refl, omega arith)
+named Unopened = (refl, omega arith)
+named TooDeep = (refl, omega arith)
+named NoRun = (refl, omega arith)
+named Crowded = (refl, omega arith)
+named Conflict = (refl, omega arith)
+named Backlog = (refl, omega arith)
+named NoRoom = (refl, omega arith)
+named Unclosed = (refl, omega arith)
+named NotFinal = (refl, omega arith)
+named Ambiguous = (refl, omega arith)
+named NotNested = (refl, omega arith)
+named TooLarge = (refl, omega arith)
 
 -- names with one number are one name
 pub number-same : (n m : Number) → numberOf n ≡ numberOf m → n ≡ m
-number-same n m e = LeftInverse·injective (λ k. getD names k Taken) numberOf named n m e
+number-same n m e = LeftInverse·injective (λ k. getD names k Taken) numberOf (λ k. named k .0) n m e
+
+pub number-small : (n : Number) → numberOf n < 256
+number-small n = named n .1
 
 -- answers with one number and one count are one answer
 pub answer-same : {r q : Answer} → numberOf (r .number) ≡ numberOf (q .number) → r .count ≡ q .count → r ≡ q

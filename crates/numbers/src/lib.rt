@@ -1,5 +1,6 @@
 // The table of numbers, once: document 01's names, the number of each, and what a call answers.
 ghost use mathlib.Core.Path.{_≡_};
+ghost use Rattle.words.specs.Lists.{Exact};
 ghost use Rattle.numbers.specs.Numbers.{numberOf};
 ghost use Rattle.numbers.specs.declared.Number.the-variants.{Taken};
 
@@ -68,4 +69,12 @@ pub fn refused(number: Number) -> Answer
     ensures { λ r. ⌜ (r .number ≡ number) × (r .count ≡ 0) ⌝ }
 {
     Answer { number, count: 0 }
+}
+
+// Whether a call was carried out.
+pub fn is_taken(answer: Answer) -> bool
+    ensures { λ r. ⌜ Exact (numberOf (answer .number) ≡ 0) r ⌝ }
+{
+    let number = answer.number;
+    number_of(number) == 0
 }

@@ -6,6 +6,7 @@ use lines::Tried;
 use lines::put_end;
 use lines::put_no_table;
 use lines::put_symbol;
+use numbers::is_taken;
 use places::SIZE;
 ghost use Prim.Native.Nat.{_+_, _^_, _≤_, _<_};
 ghost use lib.ListN.{length};
@@ -120,10 +121,11 @@ fn say(text: &[u8]) -> bool {
 
 fn on_table(file: &[u8]) {
     let mut session = [0u8; SIZE];
-    match session::begin(file, &mut session) {
-        session::Opening::BadTable => no_table(),
-        session::Opening::Taken { states: _ } => on_session(file, &mut session),
+    if !is_taken(session::begin(file, &mut session)) {
+        no_table();
+        return;
     }
+    on_session(file, &mut session);
 }
 
 fn on_session(file: &[u8], session: &mut [u8; SIZE]) {

@@ -13,6 +13,9 @@ use borrow.Author.Tests.{eqb-true, eqb-false}
 use Rattle.words.specs.Lists.{_among_}
 use Rattle.words.specs.Words.{Word, Bytes}
 use Rattle.words.proofs.Lists.{bytes-nil, bytes-cons}
+use Rattle.numbers.specs.declared.Answer.{Answer}
+use Rattle.numbers.specs.declared.Number.the-variants.{Taken}
+use Rattle.numbers.proofs.Told.{answer-same}
 use Rattle.meaning.specs.Table.{Table}
 use Rattle.meaning.specs.Trails.{Trail}
 use Rattle.meaning.specs.Living.{place, living}
@@ -20,14 +23,12 @@ use Rattle.meaning.specs.Answers.{linksCap, Moment, opened}
 use Rattle.meaning.proofs.Living.{Reaches, living-exact, begun-count as living-count}
 use Rattle.table.specs.File.{tableOf}
 use Rattle.table.specs.Good.{first, Good}
-use Rattle.table.proofs.Told.{judged-unique}
-use Rattle.checking.proofs.Told.{told-taken, told-bad}
+use Rattle.table.specs.Calls.{Judged}
+use Rattle.table.proofs.Told.{judged-good, judged-faulty, judged-unique}
 use Rattle.table.proofs.Stands.{starting-of}
 use Rattle.standing.specs.Sessions.{Entry, Sound, trails, stands, starts, started, beginning}
 use Rattle.standing.specs.Bytes.{pieceRoom, sessionOf, linkBytes, bytesOf, SoundBytes}
-use Rattle.session.specs.Calls.{numberOf, statesOf, Begins, Begun}
-use Rattle.session.specs.declared.fresh.Opening.{Opening}
-use Rattle.session.specs.declared.fresh.Opening.the-variants.{Taken, BadTable}
+use Rattle.session.specs.Calls.{Begins, Begun}
 use Rattle.standing.proofs.Beginning.{beginning-sound, beginning-stands}
 use Rattle.standing.proofs.Encoded.{Fits, small-zeros, session-back, kept-of}
 use Rattle.standing.proofs.RoundTrip.{bytes-one}
@@ -58,10 +59,12 @@ module _ (file : List ℕ) (good : Good first file) where
   sound-beginning : Sound T (beginning T)
   sound-beginning = let s = starting-of file good in beginning-sound T (s .0) (s .1) (s .2)
 
+  few : length (T .starting) ≤ linksCap
+  few = rw length-map at (sound-beginning .count .1)
+
   beginning-fits : Fits (beginning T)
   beginning-fits =
       let s = starting-of file good in
-      let few = rw length-map at (sound-beginning .count .1) in
       started-fits (T .starting) few (λ q m. omega (arith, s .0 .below q m, s .2))
 
   decoded-beginning : sessionOf (bytesOf (beginning T)) ≡ beginning T
@@ -74,12 +77,12 @@ module _ (file : List ℕ) (good : Good first file) where
   beginning-is : stands (sessionOf (bytesOf (beginning T))) ≡ opened T
   beginning-is = ap stands decoded-beginning ∙ beginning-stands T
 
-  pub begun-taken : {n : ℕ} {l session session′ : List ℕ} → l ≡ T .starting → session′ ≡ bytesOf (started l)
-      → n ≡ length l → Begun file session (Taken n) session′
-  begun-taken {session′ = session′} e f m =
+  begins-taken : {n : ℕ} {l session session′ : List ℕ} → l ≡ T .starting → session′ ≡ bytesOf (started l)
+      → n ≡ length l → Begins file session 0 n session′
+  begins-taken {session′ = session′} e f m =
       let is : session′ ≡ bytesOf (beginning T) = f ∙ ap (λ (l : List ℕ). bytesOf (started l)) e in
       record {
-        judged = told-taken file good;
+        judged = judged-good good;
         counted = λ z. m ∙ ap length e;
         none = λ z. absurd (omega arith);
         sound = λ z. rw is beginning-bytes;
@@ -87,14 +90,20 @@ module _ (file : List ℕ) (good : Good first file) where
         kept = λ z. absurd (omega arith);
       }
 
-pub begun-bad : {session : List ℕ} (file : List ℕ) → (Good first file → ⊥) → Begun file session BadTable session
-begun-bad file bad =
+  pub begun-taken : {r : Answer} {n : ℕ} {l session session′ : List ℕ} → (r .number ≡ Taken) × (r .count ≡ n)
+      → l ≡ T .starting → session′ ≡ bytesOf (started l) → n ≡ length l → Begun file session r session′
+  begun-taken a e f m = rw (a .0, a .1) (begins-taken e f m)
+
+-- what `check` refuses, begin refuses with the same answer
+pub begins-bad : {file session : List ℕ} {number states : ℕ} → Judged file number → states ≡ 0 → (number ≡ 0 → ⊥)
+    → Begins file session number states session
+begins-bad j e f =
     record {
-      judged = told-bad file bad;
-      counted = λ z. absurd (omega arith);
-      none = λ z. refl;
-      sound = λ z. absurd (omega arith);
-      stands = λ z. absurd (omega arith);
+      judged = j;
+      counted = λ z. absurd (f z);
+      none = λ z. e;
+      sound = λ z. absurd (f z);
+      stands = λ z. absurd (f z);
       kept = λ z. refl;
     }
 
@@ -116,21 +125,24 @@ begins-unique {file} {session} {m} {n} {s} {t} {x} {y} a b = go (eqb m 0) refl
           bytes-one (tableOf file) x y (a .sound z) (b .sound z′) (λ p. rw is (λ m. m, λ m. m)),
         )
     go false e =
-        let one = a .judged .bad .1 (λ g. eqb-false m 0 e (a .judged .good .1 g)) in
+        let one = a .judged .bad .1 (judged-faulty (a .judged) (eqb-false m 0 e)) in
         let one′ = sym same ∙ one in
         (same, a .none one ∙ sym (b .none one′), a .kept one ∙ sym (b .kept one′))
 
-pub begun-unique : (file session : List ℕ) (r q : Opening) (session′ session″ : List ℕ)
+pub begun-unique : (file session : List ℕ) (r q : Answer) (session′ session″ : List ℕ)
     → Begun file session r session′ → Begun file session q session″ → (r ≡ q) × (session′ ≡ session″)
 begun-unique file session r q session′ session″ a b =
     let u = begins-unique a b in
-    (one r q (u .0) (u .1), u .2)
+    (answer-same (u .0) (u .1), u .2)
+
+-- begin reports at most 64 starting states
+pub begun-few : {file session session′ : List ℕ} {number states : ℕ} → Begins file session number states session′
+    → states ≤ linksCap
+begun-few {file} {number = number} {states} b = go (eqb number 0) refl
   where
-    one : (r q : Opening) → numberOf r ≡ numberOf q → statesOf r ≡ statesOf q → r ≡ q
-    one (Taken n) (Taken m) e f = ap Taken f
-    one (Taken n) BadTable e f = absurd (omega arith)
-    one BadTable (Taken m) e f = absurd (omega arith)
-    one BadTable BadTable e f = refl
+    go : (t : Bool) → eqb number 0 ≡ t → states ≤ linksCap
+    go true e = let z = eqb-true number 0 e in omega (arith, b .counted z, few file (b .judged .good .0 z))
+    go false e = omega (arith, b .none (b .judged .bad .1 (judged-faulty (b .judged) (eqb-false number 0 e))))
 
 -- in words of runs: what waits in the session are the runs over the empty message, each trail with the output it has
 pub begun-runs : {file session session′ : List ℕ} {number states : ℕ} → Begins file session number states session′

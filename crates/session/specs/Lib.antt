@@ -1,2 +1,2 @@
--- What the calls `begin` and `sound` promise, in words of `standing`.
+-- What the call `begin` promises, in words of `standing`.
 pub mod Calls

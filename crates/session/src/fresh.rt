@@ -1,4 +1,7 @@
 // Beginning: a session for a table, at depth 0 in each starting state, with nothing waiting.
+use numbers::Answer;
+use numbers::is_taken;
+use numbers::taken;
 use places::SIZE;
 use places::clear;
 ghost use mathlib.Core.Path.{_≡_};
@@ -7,25 +10,17 @@ ghost use Rattle.standing.specs.Sessions.{started};
 ghost use Rattle.standing.specs.Bytes.{bytesOf};
 ghost use Rattle.session.specs.Calls.{Begun};
 
-// What `begin` answers.
-pub enum Opening {
-    Taken { states: u32 },
-    BadTable,
-}
-
 // Makes a fresh session for a good table, and says how many starting states there are.
-pub fn begin(file: &[u8], session: &mut [u8; SIZE]) -> Opening
+pub fn begin(file: &[u8], session: &mut [u8; SIZE]) -> Answer
     ensures { λ r. ⌜ Begun (now (file .entry)) (now (session .entry)) r (now (session .exit)) ⌝ }
 {
-    match checking::check(file) {
-        checking::Verdict::Taken => {
-            let set = table::starting_set(file);
-            start(session, set);
-            let states = sets::size(set);
-            Opening::Taken { states }
-        }
-        checking::Verdict::BadTable => Opening::BadTable,
+    let checked = checking::check(file);
+    if !is_taken(checked) {
+        return checked;
     }
+    let set = table::starting_set(file);
+    start(session, set);
+    taken(sets::size(set) as usize)
 }
 
 // A session with a link for each state of a set, in rising order.

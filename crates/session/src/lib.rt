@@ -3,7 +3,6 @@
 mod fresh;
 mod rules;
 
-pub use fresh::Opening;
 pub use fresh::begin;
 use links::levels;
 use links::levels::LEVELS;

@@ -12,28 +12,36 @@ use lib.Seq.{drop-at}
 use borrow.Author.Tests.{eqb-true, eqb-false, ltb-false}
 use Rattle.words.specs.Lists.{_among_}
 use Rattle.words.specs.Words.{Word, Bytes}
+use Rattle.numbers.specs.Numbers.{numberOf}
+use Rattle.numbers.specs.declared.Answer.{Answer}
+use Rattle.numbers.specs.declared.Number.{Number}
+use Rattle.numbers.proofs.Told.{answer-same}
 use Rattle.meaning.specs.Table.{Table, edition1, Good as GoodTable}
 use Rattle.meaning.specs.Answers.{stepTests, finishTests}
 use Rattle.meaning.proofs.Tests.{absent, fails}
 use Rattle.table.specs.File.{tableOf}
 use Rattle.table.specs.Good.{first, Good}
+use Rattle.table.specs.Calls.{Judged}
 use Rattle.table.proofs.Stands.{good-table}
+use Rattle.table.proofs.Told.{judged-faulty}
 use Rattle.standing.specs.Sessions.{Session, Sound, trails, stands}
 use Rattle.standing.specs.Bytes.{sessionOf, bytesOf, SoundBytes}
 use Rattle.standing.proofs.RoundTrip.{decoded, encoded-sound, bytes-one}
 use Rattle.stepping.specs.Stepping.{stepped, sent, linkNumber}
-use Rattle.stepping.specs.Promises.{Numbered, numberOn, sendsOn, followsOn, Stepped, finishOn, restOn, Finished}
+use Rattle.stepping.specs.Promises.{Numbered, numberOn, sendsOn, followsOn, Stepped, Answered, finishOn, restOn}
+use Rattle.stepping.specs.Promises.{Finished, Ended}
 use Rattle.stepping.proofs.Number.{number-exact}
 use Rattle.stepping.proofs.Stepped.{stepped-depth, stepped-exact, sent-exact, stepped-sound}
 
 -- the first two numbers, and the others
 
 module _ (file session : List ℕ) (by-trails : ℕ) where
-  pub numbered-one : (Good first file → ⊥) → Numbered file session by-trails 1
-  numbered-one bad =
+  pub numbered-bad : {number : ℕ} → Judged file number → (number ≡ 0 → ⊥) → Numbered file session by-trails number
+  numbered-bad j some =
+      let bad = judged-faulty j some in
       record {
-        good-table = (λ f. absurd (f refl), λ g. absurd (bad g));
-        bad-table = (λ e. bad, λ f. refl);
+        good-table = (λ f. absurd (f (j .bad .1 bad)), λ g. absurd (bad g));
+        bad-table = j .bad;
         good-session = λ g. absurd (bad g);
         bad-session = λ g. absurd (bad g);
         otherwise = λ g. absurd (bad g);
@@ -82,12 +90,12 @@ module _ (file session : List ℕ) (symbol : ℕ) (out : List ℕ) where
   by-trails = numberOn file session symbol (length out)
 
   -- the contract from what was computed: of a refusal,
-  told-no : {number : ℕ} → Numbered file session by-trails number → (number ≡ 0 → ⊥)
-      → Stepped file session symbol out number 0 session out
-  told-no n some =
+  told-no : {number count : ℕ} → Numbered file session by-trails number → count ≡ 0 → (number ≡ 0 → ⊥)
+      → Stepped file session symbol out number count session out
+  told-no n e some =
       record {
         numbered = n;
-        refused = λ f. (refl, refl, refl);
+        refused = λ f. (e, refl, refl);
         counted = λ z. absurd (some z);
         written = λ z. absurd (some z);
         sound = λ z. absurd (some z);
@@ -95,12 +103,14 @@ module _ (file session : List ℕ) (symbol : ℕ) (out : List ℕ) where
         waiting = λ z. absurd (some z);
       }
 
-  pub told-bad-table : (Good first file → ⊥) → Stepped file session symbol out 1 0 session out
-  told-bad-table bad = told-no (numbered-one file session by-trails bad) (λ z. omega arith)
+  -- what `check` refuses, step refuses with the same answer
+  pub told-bad-table : {number count : ℕ} → Judged file number → count ≡ 0 → (number ≡ 0 → ⊥)
+      → Stepped file session symbol out number count session out
+  told-bad-table j e some = told-no (numbered-bad file session by-trails j some) e some
 
   pub told-bad-session : Good first file → (SoundBytes (tableOf file) session → ⊥)
       → Stepped file session symbol out 2 0 session out
-  told-bad-session good bad = told-no (numbered-two file session by-trails good bad) (λ z. omega arith)
+  told-bad-session good bad = told-no (numbered-two file session by-trails good bad) refl (λ z. omega arith)
 
   module _ (good : Good first file) (ok : SoundBytes (tableOf file) session) where
     abbrev T : Table
@@ -118,7 +128,7 @@ module _ (file session : List ℕ) (symbol : ℕ) (out : List ℕ) where
 
     pub told-refused : {number : ℕ} → linkNumber T (length out) S symbol ≡ number → (number ≡ 0 → ⊥)
         → Stepped file session symbol out number 0 session out
-    told-refused e = told-no (numbered e)
+    told-refused e = told-no (numbered e) refl
 
     -- and of a step that was taken
     module _ (small : Bytes file) (taken : linkNumber T (length out) S symbol ≡ 0) where
@@ -149,7 +159,7 @@ module _ (file session : List ℕ) (symbol : ℕ) (out : List ℕ) where
                 (sym back) (stepped-exact T S symbol (ok .sound) (length out) taken p);
           }
 
-  -- two answers that meet the contract on the same lists are the same, and so is all that they leave behind
+  -- two numbers that meet the contract on the same lists are the same, and so is all that they leave behind
   pub stepped-unique : {n n′ c c′ : ℕ} {s s′ o o′ : List ℕ}
       → Stepped file session symbol out n c s o → Stepped file session symbol out n′ c′ s′ o′
       → (n ≡ n′) × (c ≡ c′) × (s ≡ s′) × (o ≡ o′)
@@ -177,7 +187,22 @@ module _ (file session : List ℕ) (symbol : ℕ) (out : List ℕ) where
             a .written z ∙ ap (λ (c : ℕ). sendsOn file session symbol ++ drop c out) counts ∙ sym (b .written z′),
           )
 
--- finish: two answers that meet its contract on the same lists are the same
+  -- so are two answers
+  pub answered-unique : (r q : Answer) {s s′ o o′ : List ℕ} → Answered file session symbol out r s o
+      → Answered file session symbol out q s′ o′ → (r ≡ q) × (s ≡ s′) × (o ≡ o′)
+  answered-unique r q a b = let u = stepped-unique a b in (answer-same (u .0) (u .1), u .2, u .3)
+
+-- an answer that is known by its name and count meets the contract of its number
+pub answered : {file session : List ℕ} {symbol : ℕ} {out session′ out′ : List ℕ} {r : Answer} {n : Number} {k : ℕ}
+    → (r .number ≡ n) × (r .count ≡ k) → Stepped file session symbol out (numberOf n) k session′ out′
+    → Answered file session symbol out r session′ out′
+answered e s = rw (e .0, e .1) s
+
+pub ended : {file session out out′ : List ℕ} {r : Answer} {n : Number} {k : ℕ} → (r .number ≡ n) × (r .count ≡ k)
+    → Finished file session out (numberOf n) k out′ → Ended file session out r out′
+ended e s = rw (e .0, e .1) s
+
+-- finish: two numbers that meet its contract on the same lists are the same; so are two answers
 pub finished-unique : (file session out : List ℕ) {n n′ c c′ : ℕ} {o o′ : List ℕ} → Finished file session out n c o
     → Finished file session out n′ c′ o′ → (n ≡ n′) × (c ≡ c′) × (o ≡ o′)
 finished-unique file session out {n} {n′} {c} {c′} {o} {o′} a b = go (eqb n 0) refl
@@ -198,6 +223,12 @@ finished-unique file session out {n} {n′} {c} {c′} {o} {o′} a b = go (eqb 
           counts,
           a .written z ∙ ap (λ (c : ℕ). restOn file session ++ drop c out) counts ∙ sym (b .written z′),
         )
+
+pub ended-unique : (file session out : List ℕ) (r q : Answer) {o o′ : List ℕ} → Ended file session out r o
+    → Ended file session out q o′ → (r ≡ q) × (o ≡ o′)
+ended-unique file session out r q a b =
+    let u = finished-unique file session out a b in
+    (answer-same (u .0) (u .1), u .2)
 
 -- "asking twice gives the same": also where the second is lent what the first has written
 pub finish-again : (file session out : List ℕ) {n n′ c c′ : ℕ} {o o′ : List ℕ} → Finished file session out n c o

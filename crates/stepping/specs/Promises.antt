@@ -1,11 +1,13 @@
--- What step and finish promise, over the lists at entry and at exit, with numbers for answers.
+-- What step and finish promise, over the lists at entry and at exit: by numbers, and by the answer that gives them.
 use mathlib.Core.Path.{_≡_}
 use mathlib.Core.Logic.{_↔_}
 use mathlib.Core.List.{List, _++_}
 use Prim.Native.Nat.{ℕ}
 use lib.ListN.{length, drop}
 use Rattle.words.specs.Lists.{_among_}
-use Rattle.words.specs.Words.{Word, common}
+use Rattle.words.specs.Words.{Word, Bytes, common}
+use Rattle.numbers.specs.Numbers.{numberOf}
+use Rattle.numbers.specs.declared.Answer.{Answer}
 use Rattle.meaning.specs.Living.{Place}
 use Rattle.meaning.specs.Answers.{Moment, stepNumber, sends, follows, accepted, finishNumber}
 use Rattle.table.specs.File.{tableOf}
@@ -20,6 +22,12 @@ pub record Numbered (file session : List ℕ) (by-trails number : ℕ) : Type 0 
   pub good-session : Good first file → (number ≡ 2 → ⊥) ↔ SoundBytes (tableOf file) session
   pub bad-session : Good first file → (number ≡ 2) ↔ (SoundBytes (tableOf file) session → ⊥)
   pub otherwise : Good first file → SoundBytes (tableOf file) session → number ≡ by-trails
+
+-- neither 1 nor 2 applies: the file is good, of bytes as its type says, and the session is sound for its table
+pub record Proper (file session : List ℕ) : Type 0 where
+  pub good : Good first file
+  pub small : Bytes file
+  pub sound : SoundBytes (tableOf file) session
 
 -- the number of a step by the rules in a file, from the session in some bytes
 abbrev pub numberOn : List ℕ → List ℕ → ℕ → ℕ → ℕ
@@ -46,6 +54,11 @@ pub record Stepped (file session : List ℕ) (symbol : ℕ) (out : List ℕ) (nu
   pub waiting : number ≡ 0 → (p : Place)
       → (p among trails (sessionOf session′)) ↔ (p among followsOn file session symbol .waiting)
 
+-- the same of an answer
+abbrev pub Answered : List ℕ → List ℕ → ℕ → List ℕ → Answer → List ℕ → List ℕ → Type 0
+Answered file session symbol out r session′ out′ =
+    Stepped file session symbol out (numberOf (r .number)) (r .count) session′ out′
+
 -- the number of finish by the rules in a file, of the session in some bytes
 abbrev pub finishOn : List ℕ → List ℕ → ℕ → ℕ
 finishOn file session room = finishNumber (tableOf file) room (stands (sessionOf session))
@@ -60,3 +73,7 @@ pub record Finished (file session out : List ℕ) (number count : ℕ) (out′ :
   pub refused : (number ≡ 0 → ⊥) → (count ≡ 0) × (out′ ≡ out)
   pub counted : number ≡ 0 → count ≡ length (restOn file session)
   pub written : number ≡ 0 → out′ ≡ restOn file session ++ drop count out
+
+-- the same of an answer
+abbrev pub Ended : List ℕ → List ℕ → List ℕ → Answer → List ℕ → Type 0
+Ended file session out r out′ = Finished file session out (numberOf (r .number)) (r .count) out′

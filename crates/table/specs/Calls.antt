@@ -5,6 +5,8 @@ use mathlib.Core.List.{List}
 use Prim.Native.Nat.{ℕ, _+_, _*_, _<_, _≤_}
 use lib.ListN.{length}
 use Rattle.words.specs.LittleEndian.{byte, two}
+use Rattle.numbers.specs.Numbers.{numberOf}
+use Rattle.numbers.specs.declared.Answer.{Answer}
 use Rattle.meaning.specs.Parts.{rowSize}
 use Rattle.meaning.specs.Table.{Class as Kind, unused, call, return, internal, Row}
 use Rattle.table.specs.File.{rowCount, rowStart, wordsStart, rowAt}
@@ -17,6 +19,10 @@ use Rattle.table.specs.declared.read.Rows.{Rows}
 pub record Judged (file : List ℕ) (number : ℕ) : Type 0 where
   pub good : (number ≡ 0) ↔ Good first file
   pub bad : (number ≡ 1) ↔ (Good first file → ⊥)
+
+-- "Check and begin: 1": what an answer of `check` says; it writes nothing
+abbrev pub Checked : List ℕ → Answer → Type 0
+Checked file r = Judged file (numberOf (r .number)) × (r .count ≡ 0)
 
 -- the class that a variant of the code stands for
 abbrev pub meant : Class → Kind

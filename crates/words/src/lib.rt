@@ -19,6 +19,7 @@ pub use writing::copy;
 pub use writing::insert;
 pub use writing::put_byte;
 pub use writing::put_bytes;
+pub use writing::send;
 ghost use mathlib.Core.Path.{_≡_};
 ghost use Prim.Native.Nat.{_<_, max};
 

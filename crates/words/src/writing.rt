@@ -1,8 +1,8 @@
 // Writing a part of a slice, and nothing else of it.
 ghost use mathlib.Core.Path.{_≡_};
-ghost use mathlib.Core.List.{[], _∷_};
+ghost use mathlib.Core.List.{[], _∷_, _++_};
 ghost use Prim.Native.Nat.{_+_, _<_, _≤_};
-ghost use lib.ListN.{length, replicate};
+ghost use lib.ListN.{length, drop, replicate};
 ghost use lib.Seq.{paste};
 ghost use Rattle.words.specs.Calls.{Room, Appended, Inserted};
 
@@ -16,6 +16,14 @@ pub fn copy(to: &mut [u8], at: usize, part: &[u8])
         to[at + i] = part[i];
         i += 1;
     }
+}
+
+// All of `part`, from the start: what a call sends.
+pub fn send(out: &mut [u8], part: &[u8])
+    requires { ⌜ length (now part) ≤ length (now out) ⌝ }
+    ensures { λ _. ⌜ now (out .exit) ≡ now (part .entry) ++ drop (length (now (part .entry))) (now (out .entry)) ⌝ }
+{
+    copy(out, 0, part);
 }
 
 // As many zeros, from a place on.

@@ -20,23 +20,11 @@ shift c = shift-below (c .before .before .loop .inv) _ (c .lowest .ensures .1 (o
 loop-holds : tie.Need-loop-holds Inv-loop μ-loop
 loop-holds c = pairing-none (c .pre) (c .fits .other .fits)
 
-lowest-requires : tie.Need-lowest-requires Inv-loop μ-loop
-lowest-requires c κs = search needs
-
-cast-p : tie.Need-cast-p Inv-loop μ-loop
-cast-p c = search needs
-
 mul-all : tie.Need-mul-all Inv-loop μ-loop
 mul-all c = omega (arith, shift c)
 
 shl-all : tie.Need-shl-all Inv-loop μ-loop
 shl-all c = shift c
-
-without-lowest-requires : tie.Need-without-lowest-requires Inv-loop μ-loop
-without-lowest-requires c κs = search needs
-
-loop-less : tie.Need-loop-less Inv-loop μ-loop
-loop-less c = search needs
 
 loop-again : tie.Need-loop-again Inv-loop μ-loop
 loop-again c =
@@ -54,11 +42,11 @@ pairs-spec =
     Inv-loop
     μ-loop
     loop-holds
-    lowest-requires
-    cast-p
+    (λ c κs. search needs)
+    (λ c. search needs)
     mul-all
     shl-all
-    without-lowest-requires
-    loop-less
+    (λ c κs. search needs)
+    (λ c. search needs)
     loop-again
     returns)

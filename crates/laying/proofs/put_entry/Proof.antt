@@ -4,19 +4,10 @@ use borrow.Author.Needs.{needs}
 use Rattle.laying.proofs.put_entry.Statement.{statement}
 use Rattle.laying.proofs.put_entry.Tie as tie
 
-put-two-requires : tie.Need-put-two-requires
-put-two-requires c κs = search needs
-
-put-two-requires-2 : tie.Need-put-two-requires-2
-put-two-requires-2 c κs = search needs
-
-same-length : tie.Need-same-length
-same-length c = search needs
-
 returns : tie.Need-returns
 returns c =
     let second = c .before .before in
     appended-next (second .before .before .before .before .put-two .ensures) (second .put-two2 .ensures)
 
 pub put-entry-spec : {M : Type 1} → statement M
-put-entry-spec = tie.close (tie.spec put-two-requires put-two-requires-2 same-length returns)
+put-entry-spec = tie.close (tie.spec (λ c κs. search needs) (λ c κs. search needs) (λ c. search needs) returns)

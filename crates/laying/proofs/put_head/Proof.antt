@@ -17,40 +17,16 @@ states-are c = ap₂ (λ (m n : ℕ). m * n) (c .before .states .ensures) (c .st
 states-few : (c : tie.After-states2) → c .before .states .result * c .states2 .result ≤ 64
 states-few c = omega (arith, states-are c, c .before .before .before .before .before .pre .0 .few)
 
-states-requires : tie.Need-states-requires
-states-requires c κs = search needs
-
-states-requires-2 : tie.Need-states-requires-2
-states-requires-2 c κs = search needs
-
 mul-states : tie.Need-mul-states
 mul-states c = omega (arith, states-few c)
 
-depth-cap-requires : tie.Need-depth-cap-requires
-depth-cap-requires c κs = search needs
-
-waiting-cap-requires : tie.Need-waiting-cap-requires
-waiting-cap-requires c κs = search needs
-
 cast-put-four : tie.Need-cast-put-four
 cast-put-four c = omega (arith, states-few (c .before .before .before))
-
-cast-put-four-2 : tie.Need-cast-put-four-2
-cast-put-four-2 c = search needs
 
 cast-put-four-3 : tie.Need-cast-put-four-3
 cast-put-four-3 c =
     let start = c .before .before .before .before .before .before .before .before in
     omega (arith, c .before .before .depth-cap .ensures, depth-small _ (start .pre .0 .first))
-
-put-four-requires : tie.Need-put-four-requires
-put-four-requires c κs = search needs
-
-put-entry-requires : tie.Need-put-entry-requires
-put-entry-requires c κs = search needs
-
-same-length : tie.Need-same-length
-same-length c = search needs
 
 returns : tie.Need-returns
 returns c =
@@ -64,15 +40,15 @@ pub put-head-spec : {M : Type 1} → statement M
 put-head-spec =
     tie.close
     (tie.spec
-    states-requires
-    states-requires-2
+    (λ c κs. search needs)
+    (λ c κs. search needs)
     mul-states
-    depth-cap-requires
-    waiting-cap-requires
+    (λ c κs. search needs)
+    (λ c κs. search needs)
     cast-put-four
-    cast-put-four-2
+    (λ c. search needs)
     cast-put-four-3
-    put-four-requires
-    put-entry-requires
-    same-length
+    (λ c κs. search needs)
+    (λ c κs. search needs)
+    (λ c. search needs)
     returns)

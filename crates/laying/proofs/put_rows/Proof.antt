@@ -39,12 +39,6 @@ add-start c =
     let inv = word .before .before .loop .inv in
     omega (arith, the-key word .short, inv .small, inv .keys .standing .few)
 
-add-i : tie.Need-add-i Inv-loop μ-loop
-add-i c = search needs
-
-loop-less : tie.Need-loop-less Inv-loop μ-loop
-loop-less c = search needs
-
 loop-again : tie.Need-loop-again Inv-loop μ-loop
 loop-again c =
     let put = c .before .before in
@@ -68,8 +62,8 @@ put-rows-spec =
     put-row-requires
     sub-start
     add-start
-    add-i
-    loop-less
+    (λ c. search needs)
+    (λ c. search needs)
     loop-again
     same-length
     returns)

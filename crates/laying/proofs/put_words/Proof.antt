@@ -31,19 +31,10 @@ sub-put-bytes c = the-key (c .before) .whole
 part-put-bytes-start : tie.Need-part-put-bytes-start Inv-loop μ-loop
 part-put-bytes-start c = omega (arith, the-key (c .before) .whole)
 
-part-put-bytes-end : tie.Need-part-put-bytes-end Inv-loop μ-loop
-part-put-bytes-end c = search needs
-
 put-bytes-requires : tie.Need-put-bytes-requires Inv-loop μ-loop
 put-bytes-requires c κs =
     let word = c .before .before in
     word-room _ _ _ (word .before .before .loop .inv) _ (word .word .ensures) (omega arith)
-
-add-i : tie.Need-add-i Inv-loop μ-loop
-add-i c = search needs
-
-loop-less : tie.Need-loop-less Inv-loop μ-loop
-loop-less c = search needs
 
 loop-again : tie.Need-loop-again Inv-loop μ-loop
 loop-again c =
@@ -67,10 +58,10 @@ put-words-spec =
     word-requires
     sub-put-bytes
     part-put-bytes-start
-    part-put-bytes-end
+    (λ c. search needs)
     put-bytes-requires
-    add-i
-    loop-less
+    (λ c. search needs)
+    (λ c. search needs)
     loop-again
     same-length
     returns)

@@ -21,36 +21,6 @@ front-put c =
     let two = appended-next (head .put-head .ensures) (entries .put-entries .ensures) in
     appended-next (appended-next two (bytes .put-bytes .ensures)) (c .put-sets .ensures)
 
-mul-long : tie.Need-mul-long
-mul-long c = search needs
-
-add-put-head : tie.Need-add-put-head
-add-put-head c = search needs
-
-add-put-head-2 : tie.Need-add-put-head-2
-add-put-head-2 c = search needs
-
-put-head-requires : tie.Need-put-head-requires
-put-head-requires c κs = search needs
-
-put-entries-requires : tie.Need-put-entries-requires
-put-entries-requires c κs = search needs
-
-sub-put-bytes : tie.Need-sub-put-bytes
-sub-put-bytes c = search needs
-
-part-put-bytes-start : tie.Need-part-put-bytes-start
-part-put-bytes-start c = search needs
-
-part-put-bytes-end : tie.Need-part-put-bytes-end
-part-put-bytes-end c = search needs
-
-put-bytes-requires : tie.Need-put-bytes-requires
-put-bytes-requires c κs = search needs
-
-put-sets-requires : tie.Need-put-sets-requires
-put-sets-requires c κs = search needs
-
 put-rows-requires : tie.Need-put-rows-requires
 put-rows-requires c κs =
     let sets = c .before .before .before in
@@ -64,9 +34,6 @@ put-words-requires c κs =
     let pre = start sets .pre in
     (words-fit pre (appended-next (front-put sets) (rows .put-rows .ensures)), pre .keys)
 
-same-length : tie.Need-same-length
-same-length c = search needs
-
 returns : tie.Need-returns
 returns c =
     let words = c .before .before in
@@ -79,17 +46,17 @@ pub write-spec : {M : Type 1} → statement M
 write-spec =
     tie.close
     (tie.spec
-    mul-long
-    add-put-head
-    add-put-head-2
-    put-head-requires
-    put-entries-requires
-    sub-put-bytes
-    part-put-bytes-start
-    part-put-bytes-end
-    put-bytes-requires
-    put-sets-requires
+    (λ c. search needs)
+    (λ c. search needs)
+    (λ c. search needs)
+    (λ c κs. search needs)
+    (λ c κs. search needs)
+    (λ c. search needs)
+    (λ c. search needs)
+    (λ c. search needs)
+    (λ c κs. search needs)
+    (λ c κs. search needs)
     put-rows-requires
     put-words-requires
-    same-length
+    (λ c. search needs)
     returns)

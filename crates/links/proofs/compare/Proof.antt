@@ -4,12 +4,6 @@ use borrow.Author.Needs.{needs}
 use Rattle.links.proofs.compare.Statement.{statement}
 use Rattle.links.proofs.compare.Tie as tie
 
-key-requires : tie.Need-key-requires
-key-requires c κs = search needs
-
-key-of-requires : tie.Need-key-of-requires
-key-of-requires c κs = search needs
-
 returns : tie.Need-returns
 returns c = record { stands = omega arith }
 
@@ -20,4 +14,4 @@ returns-3 : tie.Need-returns-3
 returns-3 c = record { stands = omega arith }
 
 pub compare-spec : {M : Type 1} → statement M
-compare-spec = tie.close (tie.spec key-requires key-of-requires returns returns-2 returns-3)
+compare-spec = tie.close (tie.spec (λ c κs. search needs) (λ c κs. search needs) returns returns-2 returns-3)

@@ -5,12 +5,6 @@ use Rattle.words.proofs.Lists.{byte-getD}
 use Rattle.links.proofs.count.Statement.{statement}
 use Rattle.links.proofs.count.Tie as tie
 
-shared-slice-read-wide : tie.Need-shared-slice-read-wide
-shared-slice-read-wide c = search needs
-
-wide-requires : tie.Need-wide-requires
-wide-requires c κs = search needs
-
 returns : tie.Need-returns
 returns c = (
   search needs,
@@ -18,4 +12,4 @@ returns c = (
 )
 
 pub count-spec : {M : Type 1} → statement M
-count-spec = tie.close (tie.spec shared-slice-read-wide wide-requires returns)
+count-spec = tie.close (tie.spec (λ c. search needs) (λ c κs. search needs) returns)

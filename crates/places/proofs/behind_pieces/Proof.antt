@@ -14,9 +14,6 @@ Inv-loop session n i₀ i = (i ≤ n) × ClearBehind session i
 abbrev μ-loop : tie.MeasureT-loop
 μ-loop session n i₀ i = n - i
 
-count-requires : tie.Need-count-requires Inv-loop μ-loop
-count-requires c κs = search needs
-
 loop-holds : tie.Need-loop-holds Inv-loop μ-loop
 loop-holds c = (omega arith, record { each = λ i lt. absurd (omega arith) })
 
@@ -27,12 +24,6 @@ behind-piece-requires c κs =
 
 returns : tie.Need-returns Inv-loop μ-loop
 returns c = no-exact (λ b. denied (c .before .behind-piece .ensures) (c .if1 .taken) (b .each _ (omega arith)))
-
-add-i : tie.Need-add-i Inv-loop μ-loop
-add-i c = search needs
-
-loop-less : tie.Need-loop-less Inv-loop μ-loop
-loop-less c = search needs
 
 loop-again : tie.Need-loop-again Inv-loop μ-loop
 loop-again c =
@@ -50,11 +41,11 @@ behind-pieces-spec =
     (tie.spec
     Inv-loop
     μ-loop
-    count-requires
+    (λ c κs. search needs)
     loop-holds
     behind-piece-requires
     returns
-    add-i
-    loop-less
+    (λ c. search needs)
+    (λ c. search needs)
     loop-again
     returns-2)

@@ -6,23 +6,8 @@ use Rattle.standing.proofs.Passed.{head-empty, head-first}
 use Rattle.places.proofs.head.Statement.{statement}
 use Rattle.places.proofs.head.Tie as tie
 
-long-requires : tie.Need-long-requires
-long-requires c κs = search needs
-
 returns : tie.Need-returns
 returns c = let args = c .before .before .before .args in sym (head-empty (args .session .now) (args .i) (omega arith))
-
-mul-wide : tie.Need-mul-wide
-mul-wide c = search needs
-
-add-wide : tie.Need-add-wide
-add-wide c = search needs
-
-shared-slice-read-wide : tie.Need-shared-slice-read-wide
-shared-slice-read-wide c = search needs
-
-wide-requires : tie.Need-wide-requires
-wide-requires c κs = search needs
 
 returns-2 : tie.Need-returns-2
 returns-2 c =
@@ -33,10 +18,10 @@ pub head-spec : {M : Type 1} → statement M
 head-spec =
     tie.close
     (tie.spec
-    long-requires
+    (λ c κs. search needs)
     returns
-    mul-wide
-    add-wide
-    shared-slice-read-wide
-    wide-requires
+    (λ c. search needs)
+    (λ c. search needs)
+    (λ c. search needs)
+    (λ c κs. search needs)
     returns-2)

@@ -5,21 +5,6 @@ use Rattle.places.proofs.Entered.{Parts, parts-made, put-over, put-behi
 use Rattle.places.proofs.put_entry.Statement.{statement}
 use Rattle.places.proofs.put_entry.Tie as tie
 
-long-requires : tie.Need-long-requires
-long-requires c κs = search needs
-
-mul-start : tie.Need-mul-start
-mul-start c = search needs
-
-add-start : tie.Need-add-start
-add-start c = search needs
-
-put-requires : tie.Need-put-requires
-put-requires c κs = search needs
-
-copy-requires : tie.Need-copy-requires
-copy-requires c κs = search needs
-
 -- the link's bytes, its length and its piece are there
 abbrev put-at : tie.After-slice-known2 → tie.After-put
 put-at c = c .before .before .before .before .before .before
@@ -38,15 +23,6 @@ returns c =
     let put = put-at (c .before) in
     put-over (start-at put .pre) (put .before .before .long .ensures .0) (c .if1 .taken) (parts-at (c .before))
 
-add-clear : tie.Need-add-clear
-add-clear c = search needs
-
-sub-clear : tie.Need-sub-clear
-sub-clear c = search needs
-
-clear-requires : tie.Need-clear-requires
-clear-requires c κs = search needs
-
 returns-2 : tie.Need-returns-2
 returns-2 c =
     let put = put-at (c .before .before) in
@@ -57,13 +33,13 @@ pub put-entry-spec : {M : Type 1} → statement M
 put-entry-spec =
     tie.close
     (tie.spec
-    long-requires
-    mul-start
-    add-start
-    put-requires
-    copy-requires
+    (λ c κs. search needs)
+    (λ c. search needs)
+    (λ c. search needs)
+    (λ c κs. search needs)
+    (λ c κs. search needs)
     returns
-    add-clear
-    sub-clear
-    clear-requires
+    (λ c. search needs)
+    (λ c. search needs)
+    (λ c κs. search needs)
     returns-2)

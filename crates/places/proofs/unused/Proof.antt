@@ -5,9 +5,6 @@ use Rattle.standing.proofs.Clear.{unused-behind, clear-unused}
 use Rattle.places.proofs.unused.Statement.{statement}
 use Rattle.places.proofs.unused.Tie as tie
 
-rest-blank-requires : tie.Need-rest-blank-requires
-rest-blank-requires c κs = search needs
-
 returns : tie.Need-returns
 returns c =
     no-exact
@@ -15,23 +12,8 @@ returns c =
     denied (c .before .rest-blank .ensures) (c .if1 .taken)
     (record { links = record { zero = u .links }; lengths = record { zero = u .lengths } }))
 
-behind-pieces-requires : tie.Need-behind-pieces-requires
-behind-pieces-requires c κs = search needs
-
 returns-2 : tie.Need-returns-2
 returns-2 c = no-exact (λ u. denied (c .before .behind-pieces .ensures) (c .if2 .taken) (unused-behind _ u))
-
-count-requires : tie.Need-count-requires
-count-requires c κs = search needs
-
-mul-blank : tie.Need-mul-blank
-mul-blank c = search needs
-
-add-blank : tie.Need-add-blank
-add-blank c = search needs
-
-blank-requires : tie.Need-blank-requires
-blank-requires c κs = search needs
 
 returns-3 : tie.Need-returns-3
 returns-3 c =
@@ -46,12 +28,12 @@ pub unused-spec : {M : Type 1} → statement M
 unused-spec =
     tie.close
     (tie.spec
-    rest-blank-requires
+    (λ c κs. search needs)
     returns
-    behind-pieces-requires
+    (λ c κs. search needs)
     returns-2
-    count-requires
-    mul-blank
-    add-blank
-    blank-requires
+    (λ c κs. search needs)
+    (λ c. search needs)
+    (λ c. search needs)
+    (λ c κs. search needs)
     returns-3)

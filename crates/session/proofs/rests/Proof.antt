@@ -15,9 +15,6 @@ groups-requires c κs = let pre = c .before .before .pre in (pre .0 .1, pre .1 .
 returns : tie.Need-returns
 returns c = no-exact (λ h. denied (c .before .groups .ensures) (c .if1 .taken) (h .groups))
 
-waiting-cap-requires : tie.Need-waiting-cap-requires
-waiting-cap-requires c κs = search needs
-
 longest-requires : tie.Need-longest-requires
 longest-requires c κs =
     let pre = c .before .before .before .before .before .pre in
@@ -54,4 +51,4 @@ returns-3 c =
 pub rests-spec : {M : Type 1} → statement M
 rests-spec =
     tie.close
-    (tie.spec groups-requires returns waiting-cap-requires longest-requires returns-2 unused-requires returns-3)
+    (tie.spec groups-requires returns (λ c κs. search needs) longest-requires returns-2 unused-requires returns-3)

@@ -8,9 +8,6 @@ use Rattle.session.proofs.Rising.{shallow}
 use Rattle.session.proofs.sound.Statement.{statement}
 use Rattle.session.proofs.sound.Tie as tie
 
-count-requires : tie.Need-count-requires
-count-requires c κs = search needs
-
 -- the bytes are those of a session
 lent : (c : tie.After-count) → Lent (c .before .before .before .args .session .now)
 lent c = record { whole = omega arith; small = c .count .ensures .1 }
@@ -21,17 +18,8 @@ returns c = not-sound (lent (c .before)) (λ p. omega arith)
 returns-2 : tie.Need-returns-2
 returns-2 c = not-sound (lent (c .before .before)) (λ p. omega arith)
 
-depth-cap-requires : tie.Need-depth-cap-requires
-depth-cap-requires c κs = search needs
-
-depth-requires : tie.Need-depth-requires
-depth-requires c κs = search needs
-
 returns-3 : tie.Need-returns-3
 returns-3 c = not-sound (lent (c .before .before .before .before .before)) (λ p. omega arith)
-
-links-requires : tie.Need-links-requires
-links-requires c κs = search needs
 
 returns-4 : tie.Need-returns-4
 returns-4 c =
@@ -70,13 +58,13 @@ pub sound-spec : {M : Type 1} → statement M
 sound-spec =
     tie.close
     (tie.spec
-    count-requires
+    (λ c κs. search needs)
     returns
     returns-2
-    depth-cap-requires
-    depth-requires
+    (λ c κs. search needs)
+    (λ c κs. search needs)
     returns-3
-    links-requires
+    (λ c κs. search needs)
     returns-4
     on-links-requires
     returns-5)

@@ -11,9 +11,6 @@ use borrow.Author.Needs.{needs}
 use Rattle.shelf.proofs.against.Statement.{statement}
 use Rattle.shelf.proofs.against.Tie as tie
 
-compare-requires : tie.Need-compare-requires
-compare-requires c κs = search needs
-
 returns : tie.Need-returns
 returns c =
     let z = c .before .before .before .before .before .args in
@@ -23,30 +20,6 @@ slice-aggregate-compare : tie.Need-slice-aggregate-compare
 slice-aggregate-compare c =
     let z = c .before .before .before .before .before .args in
     sym (length-take-le (length (z .head .now)) (z .word .now) (omega arith))
-
-compare-requires-2 : tie.Need-compare-requires-2
-compare-requires-2 c κs = search needs
-
-enum-told : tie.Need-enum-told
-enum-told c = search needs
-
-enum-told-2 : tie.Need-enum-told-2
-enum-told-2 c = search needs
-
-sub-compare : tie.Need-sub-compare
-sub-compare c = search needs
-
-part-compare-start : tie.Need-part-compare-start
-part-compare-start c = search needs
-
-part-compare-end : tie.Need-part-compare-end
-part-compare-end c = search needs
-
-compare-requires-3 : tie.Need-compare-requires-3
-compare-requires-3 c κs = search needs
-
-enum-told-3 : tie.Need-enum-told-3
-enum-told-3 c = search needs
 
 returns-2 : tie.Need-returns-2
 returns-2 c =
@@ -78,17 +51,17 @@ pub against-spec : {M : Type 1} → statement M
 against-spec =
     tie.close
     (tie.spec
-    compare-requires
+    (λ c κs. search needs)
     returns
     slice-aggregate-compare
-    compare-requires-2
-    enum-told
-    enum-told-2
-    sub-compare
-    part-compare-start
-    part-compare-end
-    compare-requires-3
-    enum-told-3
+    (λ c κs. search needs)
+    (λ c. search needs)
+    (λ c. search needs)
+    (λ c. search needs)
+    (λ c. search needs)
+    (λ c. search needs)
+    (λ c κs. search needs)
+    (λ c. search needs)
     returns-2
     returns-3
     returns-4)

@@ -7,12 +7,6 @@ use borrow.Author.Needs.{needs}
 use Rattle.shelf.proofs.full.Statement.{statement}
 use Rattle.shelf.proofs.full.Tie as tie
 
-enum-told : tie.Need-enum-told
-enum-told c = search needs
-
-enum-told-2 : tie.Need-enum-told-2
-enum-told-2 c = search needs
-
 returns : tie.Need-returns
 returns c = yes-exact (c .enum-told .given .1)
 
@@ -20,4 +14,4 @@ returns-2 : tie.Need-returns-2
 returns-2 c = no-exact (λ e. absurd (let f = c .enum-told2 .given .1 in let z : _≡_ {A = ℕ} 0 1 = cc in omega arith))
 
 pub full-spec : {M : Type 1} → statement M
-full-spec = tie.close (tie.spec enum-told enum-told-2 returns returns-2)
+full-spec = tie.close (tie.spec (λ c. search needs) (λ c. search needs) returns returns-2)

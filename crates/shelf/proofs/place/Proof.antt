@@ -38,9 +38,6 @@ found c =
 loop-holds : tie.Need-loop-holds Inv-loop μ-loop
 loop-holds c = narrowed-start
 
-sub-middle : tie.Need-sub-middle Inv-loop μ-loop
-sub-middle c = search needs
-
 add-middle : tie.Need-add-middle Inv-loop μ-loop
 add-middle c = omega (arith, start c .pre .few)
 
@@ -48,24 +45,12 @@ word-requires : tie.Need-word-requires Inv-loop μ-loop
 word-requires c κs =
     record { count = _; standing = start c .pre; within = omega (arith, c .before .loop .inv .within) }
 
-against-requires : tie.Need-against-requires Inv-loop μ-loop
-against-requires c κs = search needs
-
-enum-told : tie.Need-enum-told Inv-loop μ-loop
-enum-told c = search needs
-
-loop-less : tie.Need-loop-less Inv-loop μ-loop
-loop-less c = omega arith
-
 loop-again : tie.Need-loop-again Inv-loop μ-loop
 loop-again c =
     let turn = c .before .before in
     let test = turn .before .before in
     narrowed-before (start test .pre) (test .before .loop .inv) (middle test) (omega arith) (omega arith)
     (sym (found turn) ∙ ap sideOf (c .enum-told .given .1))
-
-enum-told-2 : tie.Need-enum-told-2 Inv-loop μ-loop
-enum-told-2 c = search needs
 
 returns : tie.Need-returns Inv-loop μ-loop
 returns c =
@@ -77,14 +62,8 @@ returns c =
     (sym (found turn) ∙ ap sideOf (c .enum-told2 .given .1)) in
     narrowed-place pre here (omega arith)
 
-enum-told-3 : tie.Need-enum-told-3 Inv-loop μ-loop
-enum-told-3 c = search needs
-
 add-low : tie.Need-add-low Inv-loop μ-loop
 add-low c = let test = c .before .before .before .before in omega (arith, start test .pre .few)
-
-loop-less-2 : tie.Need-loop-less-2 Inv-loop μ-loop
-loop-less-2 c = omega arith
 
 loop-again-2 : tie.Need-loop-again-2 Inv-loop μ-loop
 loop-again-2 c =
@@ -103,17 +82,17 @@ place-spec =
     Inv-loop
     μ-loop
     loop-holds
-    sub-middle
+    (λ c. search needs)
     add-middle
     word-requires
-    against-requires
-    enum-told
-    loop-less
+    (λ c κs. search needs)
+    (λ c. search needs)
+    (λ c. omega arith)
     loop-again
-    enum-told-2
+    (λ c. search needs)
     returns
-    enum-told-3
+    (λ c. search needs)
     add-low
-    loop-less-2
+    (λ c. omega arith)
     loop-again-2
     returns-2)

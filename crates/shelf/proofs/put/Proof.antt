@@ -4,12 +4,6 @@ use borrow.Author.Needs.{needs}
 use Rattle.shelf.proofs.put.Statement.{statement}
 use Rattle.shelf.proofs.put.Tie as tie
 
-enum-told : tie.Need-enum-told
-enum-told c = search needs
-
-enum-known-shelf : tie.Need-enum-known-shelf
-enum-known-shelf c = search needs
-
 put-in-requires : tie.Need-put-in-requires
 put-in-requires c κs =
     let matched = c .before .before .before .before in
@@ -25,4 +19,4 @@ returns-2 c = λ made g.
     c .put-in .ensures made (shelved-made (g .made _ _ (matched .shelf .given .1)))
 
 pub put-spec : {M : Type 1} → statement M
-put-spec = tie.close (tie.spec enum-told enum-known-shelf put-in-requires returns returns-2)
+put-spec = tie.close (tie.spec (λ c. search needs) (λ c. search needs) put-in-requires returns returns-2)

@@ -65,9 +65,6 @@ returns-3 c = λ made g.
 sub-if4 : tie.Need-sub-if4
 sub-if4 c = held-before (start (c .before .before .before)) .room
 
-sub-if4-2 : tie.Need-sub-if4-2
-sub-if4-2 c = search needs
-
 returns-4 : tie.Need-returns-4
 returns-4 c = λ made g.
     let stands = c .before .before .before .before in
@@ -114,7 +111,7 @@ put-in-spec =
     sub-if3
     returns-3
     sub-if4
-    sub-if4-2
+    (λ c. search needs)
     returns-4
     store-requires
     cast-insert

@@ -29,21 +29,6 @@ told c s e =
 returns : tie.Need-returns
 returns c = no-exact (λ h. omega arith)
 
-word-requires : tie.Need-word-requires
-word-requires c κs = search needs
-
-against-requires : tie.Need-against-requires
-against-requires c κs = search needs
-
-enum-told : tie.Need-enum-told
-enum-told c = search needs
-
-enum-told-2 : tie.Need-enum-told-2
-enum-told-2 c = search needs
-
-enum-told-3 : tie.Need-enum-told-3
-enum-told-3 c = search needs
-
 returns-2 : tie.Need-returns-2
 returns-2 c = told (c .before .before) lower (ap sideOf (c .enum-told .given .1))
 
@@ -58,11 +43,11 @@ stands-spec =
     tie.close
     (tie.spec
     returns
-    word-requires
-    against-requires
-    enum-told
-    enum-told-2
-    enum-told-3
+    (λ c κs. search needs)
+    (λ c κs. search needs)
+    (λ c. search needs)
+    (λ c. search needs)
+    (λ c. search needs)
     returns-2
     returns-3
     returns-4)

@@ -15,27 +15,6 @@ in-use c =
     let pre = c .before .before .pre in
     omega (arith, c .wide .ensures .0, pre .standing .slots _ (pre .within))
 
-element-copy-out-wide : tie.Need-element-copy-out-wide
-element-copy-out-wide c = search needs
-
-wide-requires : tie.Need-wide-requires
-wide-requires c κs = search needs
-
-mul-from : tie.Need-mul-from
-mul-from c = search needs
-
-element-copy-out-from : tie.Need-element-copy-out-from
-element-copy-out-from c = search needs
-
-add-to : tie.Need-add-to
-add-to c = search needs
-
-mul-to : tie.Need-mul-to
-mul-to c = search needs
-
-element-copy-out-to : tie.Need-element-copy-out-to
-element-copy-out-to c = search needs
-
 sub-result : tie.Need-sub-result
 sub-result c =
     let slot = c .before .before .before in
@@ -67,13 +46,13 @@ pub word-spec : {M : Type 1} → statement M
 word-spec =
     tie.close
     (tie.spec
-    element-copy-out-wide
-    wide-requires
-    mul-from
-    element-copy-out-from
-    add-to
-    mul-to
-    element-copy-out-to
+    (λ c. search needs)
+    (λ c κs. search needs)
+    (λ c. search needs)
+    (λ c. search needs)
+    (λ c. search needs)
+    (λ c. search needs)
+    (λ c. search needs)
     sub-result
     part-result-start
     part-result-end

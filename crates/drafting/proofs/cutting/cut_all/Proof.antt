@@ -22,18 +22,6 @@ loop-holds c = (omega arith, omega arith, cut-start _ _ _ _)
 cut-by-requires : tie.Need-cut-by-requires Inv-loop μ-loop
 cut-by-requires c κs = let pre = c .before .before .before .pre in ((pre .0, omega arith), pre .1)
 
-mul-all : tie.Need-mul-all Inv-loop μ-loop
-mul-all c = search needs
-
-slice-write-all : tie.Need-slice-write-all Inv-loop μ-loop
-slice-write-all c = search needs
-
-add-i : tie.Need-add-i Inv-loop μ-loop
-add-i c = search needs
-
-loop-less : tie.Need-loop-less Inv-loop μ-loop
-loop-less c = search needs
-
 loop-again : tie.Need-loop-again Inv-loop μ-loop
 loop-again c =
     let at-loop = c .before .before in
@@ -57,9 +45,9 @@ cut-all-spec =
     μ-loop
     loop-holds
     cut-by-requires
-    mul-all
-    slice-write-all
-    add-i
-    loop-less
+    (λ c. search needs)
+    (λ c. search needs)
+    (λ c. search needs)
+    (λ c. search needs)
     loop-again
     returns)

@@ -22,9 +22,6 @@ Inv-loop work order n ends handed sent i foot level end j₀ j =
 abbrev μ-loop : tie.MeasureT-loop
 μ-loop work order n ends handed sent i foot level end j₀ j = end - j
 
-slot-requires : tie.Need-slot-requires Inv-loop μ-loop
-slot-requires c κs = search needs
-
 foot-requires : tie.Need-foot-requires Inv-loop μ-loop
 foot-requires c κs =
     let pre = c .before .pre .0 in
@@ -95,9 +92,6 @@ seat-is c =
     let work = at-loop .before .before .before .before .before .before .args .work .now in
     c .seat .ensures ∙ ap (λ (s : ℕ). seatFrom work (slotStart s)) (c .before .slot2 .ensures .0)
 
-mul-result : tie.Need-mul-result Inv-loop μ-loop
-mul-result c = search needs
-
 element-copy-out-result : tie.Need-element-copy-out-result Inv-loop μ-loop
 element-copy-out-result c =
     let at-start = c .before .before .before .before .before .before .before .before .before .before in
@@ -109,12 +103,6 @@ returns-2 c =
     let pre = at-loop .before .before .before .before .before .before .pre .0 in
     cut-handed (pre .0) _ (at-loop .loop .j) (pre .1) (omega arith)
     (omega (arith, seat-is (c .before .before), at-loop .loop .inv .2))
-
-add-j : tie.Need-add-j Inv-loop μ-loop
-add-j c = search needs
-
-loop-less : tie.Need-loop-less Inv-loop μ-loop
-loop-less c = search needs
 
 loop-again : tie.Need-loop-again Inv-loop μ-loop
 loop-again c =
@@ -138,7 +126,7 @@ cut-by-spec =
     (tie.spec
     Inv-loop
     μ-loop
-    slot-requires
+    (λ c κs. search needs)
     foot-requires
     returns
     sub-start
@@ -147,10 +135,10 @@ cut-by-spec =
     loop-holds
     slot-requires-2
     seat-requires
-    mul-result
+    (λ c. search needs)
     element-copy-out-result
     returns-2
-    add-j
-    loop-less
+    (λ c. search needs)
+    (λ c. search needs)
     loop-again
     returns-3)

@@ -23,12 +23,6 @@ weigh-requires c κs =
     let pre = at-loop .before .pre in
     ((pre .0, omega arith), (at-loop .loop .inv .1, pre .1))
 
-add-i : tie.Need-add-i Inv-loop μ-loop
-add-i c = search needs
-
-loop-less : tie.Need-loop-less Inv-loop μ-loop
-loop-less c = search needs
-
 loop-again : tie.Need-loop-again Inv-loop μ-loop
 loop-again c = (omega arith, c .weigh .ensures)
 
@@ -51,8 +45,8 @@ longest-spec =
     μ-loop
     loop-holds
     weigh-requires
-    add-i
-    loop-less
+    (λ c. search needs)
+    (λ c. search needs)
     loop-again
     most-on-requires
     returns)

@@ -61,21 +61,6 @@ foot-of c =
     let work = c .before .before .before .before .before .before .args .work .now in
     c .foot .ensures ∙ ap (λ (s : ℕ). footFrom work (slotStart s)) (c .before .slot .ensures .0)
 
-mul-larger : tie.Need-mul-larger Inv-loop μ-loop
-mul-larger c = search needs
-
-element-copy-out-larger : tie.Need-element-copy-out-larger Inv-loop μ-loop
-element-copy-out-larger c = search needs
-
-larger-requires : tie.Need-larger-requires Inv-loop μ-loop
-larger-requires c κs = search needs
-
-add-j : tie.Need-add-j Inv-loop μ-loop
-add-j c = search needs
-
-loop-less : tie.Need-loop-less Inv-loop μ-loop
-loop-less c = search needs
-
 loop-again : tie.Need-loop-again Inv-loop μ-loop
 loop-again c =
     let at-loop = c .before .before .before .before in
@@ -117,10 +102,10 @@ most-on-spec =
     loop-holds
     slot-requires
     foot-requires
-    mul-larger
-    element-copy-out-larger
-    larger-requires
-    add-j
-    loop-less
+    (λ c. search needs)
+    (λ c. search needs)
+    (λ c κs. search needs)
+    (λ c. search needs)
+    (λ c. search needs)
     loop-again
     returns)

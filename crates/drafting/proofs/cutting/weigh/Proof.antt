@@ -13,9 +13,6 @@ use borrow.Author.Needs.{needs}
 use Rattle.drafting.proofs.cutting.weigh.Statement.{statement}
 use Rattle.drafting.proofs.cutting.weigh.Tie as tie
 
-slot-requires : tie.Need-slot-requires
-slot-requires c κs = search needs
-
 seat-requires : tie.Need-seat-requires
 seat-requires c κs =
     let pre = c .before .before .pre .0 in
@@ -44,12 +41,6 @@ length-requires : tie.Need-length-requires
 length-requires c κs =
     let pre = c .before .before .before .before .pre .0 in
     omega (arith, pre .0 .drafts .few, pre .0 .drafts .within _ (pre .1))
-
-mul-own : tie.Need-mul-own
-mul-own c = search needs
-
-element-copy-out-own : tie.Need-element-copy-out-own
-element-copy-out-own c = search needs
 
 length-of : (c : tie.After-length) →
     let args = c .before .before .before .before .before .args in
@@ -82,12 +73,6 @@ add-all c =
     let pre = c .before .before .before .before .before .before .before .pre .0 in
     omega (arith, load c, pre .0 .drafts .few, cut-load-small (pre .0) _ (pre .1))
 
-mul-all : tie.Need-mul-all
-mul-all c = search needs
-
-slice-write-all : tie.Need-slice-write-all
-slice-write-all c = search needs
-
 returns : tie.Need-returns
 returns c =
     let pre = c .before .before .before .before .before .before .before .pre in
@@ -97,14 +82,14 @@ pub weigh-spec : {M : Type 1} → statement M
 weigh-spec =
     tie.close
     (tie.spec
-    slot-requires
+    (λ c κs. search needs)
     seat-requires
     most-on-requires
     length-requires
-    mul-own
-    element-copy-out-own
+    (λ c. search needs)
+    (λ c. search needs)
     sub-own
     add-all
-    mul-all
-    slice-write-all
+    (λ c. search needs)
+    (λ c. search needs)
     returns)

@@ -21,12 +21,6 @@ abbrev μ-loop : tie.MeasureT-loop
 loop-holds : tie.Need-loop-holds Inv-loop μ-loop
 loop-holds c = (omega arith, omega arith, above-none, λ h. absurd (omega arith))
 
-sub-middle : tie.Need-sub-middle Inv-loop μ-loop
-sub-middle c = omega arith
-
-add-middle : tie.Need-add-middle Inv-loop μ-loop
-add-middle c = omega arith
-
 -- the place that is looked at, and the number there
 abbrev middle : (c : tie.In-loop Inv-loop μ-loop) → ℕ
 middle c = let l = c .before .loop in l .low + (l .high - l .low) / 2
@@ -49,19 +43,10 @@ number c =
     let work : List ℕ = c .before .before .before .before .args .work .now in
     c .key .ensures .0 ∙ ap (λ (t : ℕ). keyFrom work (slotStart t)) (c .before .slot .ensures .0)
 
-loop-less : tie.Need-loop-less Inv-loop μ-loop
-loop-less c = omega arith
-
 loop-again : tie.Need-loop-again Inv-loop μ-loop
 loop-again c =
     let inv = c .before .before .before .before .loop .inv in
     (omega arith, omega (arith, inv .1), inv .2, λ h. omega (arith, number (c .before), c .if1 .taken))
-
-add-low : tie.Need-add-low Inv-loop μ-loop
-add-low c = omega arith
-
-loop-less-2 : tie.Need-loop-less-2 Inv-loop μ-loop
-loop-less-2 c = omega arith
 
 loop-again-2 : tie.Need-loop-again-2 Inv-loop μ-loop
 loop-again-2 c =
@@ -88,13 +73,13 @@ halved-spec =
     Inv-loop
     μ-loop
     loop-holds
-    sub-middle
-    add-middle
+    (λ c. omega arith)
+    (λ c. omega arith)
     slot-requires
     key-requires
-    loop-less
+    (λ c. omega arith)
     loop-again
-    add-low
-    loop-less-2
+    (λ c. omega arith)
+    (λ c. omega arith)
     loop-again-2
     returns)

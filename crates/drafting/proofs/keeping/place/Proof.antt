@@ -13,9 +13,6 @@ use Rattle.drafting.proofs.keeping.place.Tie as tie
 returns : tie.Need-returns
 returns c = above-place above-none (omega arith) (λ h. absurd (omega arith))
 
-slot-requires : tie.Need-slot-requires
-slot-requires c κs = search needs
-
 key-requires : tie.Need-key-requires
 key-requires c κs =
     let drafts = c .before .before .pre .0 in
@@ -40,4 +37,4 @@ returns-3 c = c .halved .ensures
 
 pub place-spec : {M : Type 1} → statement M
 place-spec =
-    tie.close (tie.spec returns slot-requires key-requires returns-2 halved-requires returns-3)
+    tie.close (tie.spec returns (λ c κs. search needs) key-requires returns-2 halved-requires returns-3)

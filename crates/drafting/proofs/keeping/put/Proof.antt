@@ -66,12 +66,6 @@ new c h e =
     (λ w. w .5 .left (w .4 .ensures .0 ∙ ap (λ (t : ℕ). keyFrom bytes (slotStart t)) (w .2 .ensures .0) ∙ e))
     (λ w. omega arith) (c .if1 .came)
 
-place-requires : tie.Need-place-requires
-place-requires c κs = search needs
-
-slot-requires : tie.Need-slot-requires
-slot-requires c κs = search needs
-
 key-requires : tie.Need-key-requires
 key-requires c κs = slot-within (c .before)
 
@@ -83,9 +77,6 @@ piece-requires c κs =
       subst (λ (t : ℕ). lengthIn (work place) t ≤ draftRoom) (sym (after-slot .slot .ensures .0))
           (start place .pre .0 .0 .short _ (after-slot .before .before .if1 .taken)),
     )
-
-same-piece-requires : tie.Need-same-piece-requires
-same-piece-requires c κs = search needs
 
 returns : tie.Need-returns
 returns c =
@@ -120,15 +111,6 @@ returns-3 c =
           no-slot (pre .0) (pre .1) (place .place .ensures) l plain is (parts place) (new (c .before)) (c .if4 .taken);
     }
 
-fill-requires : tie.Need-fill-requires
-fill-requires c κs = search needs
-
-cast-insert : tie.Need-cast-insert
-cast-insert c = search needs
-
-insert-requires : tie.Need-insert-requires
-insert-requires c κs = search needs
-
 returns-4 : tie.Need-returns-4
 returns-4 c =
     let else = c .before .before .before .before in
@@ -145,15 +127,15 @@ pub put-spec : {M : Type 1} → statement M
 put-spec =
     tie.close
     (tie.spec
-    place-requires
-    slot-requires
+    (λ c κs. search needs)
+    (λ c κs. search needs)
     key-requires
     piece-requires
-    same-piece-requires
+    (λ c κs. search needs)
     returns
     returns-2
     returns-3
-    fill-requires
-    cast-insert
-    insert-requires
+    (λ c κs. search needs)
+    (λ c. search needs)
+    (λ c κs. search needs)
     returns-4)

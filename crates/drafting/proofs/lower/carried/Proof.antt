@@ -58,12 +58,6 @@ foot-of c =
 returns : tie.Need-returns Inv-loop μ-loop
 returns c = yes-exact (c .before .before .before .before .loop .i, omega arith, omega (arith, foot-of (c .before)))
 
-add-i : tie.Need-add-i Inv-loop μ-loop
-add-i c = search needs
-
-loop-less : tie.Need-loop-less Inv-loop μ-loop
-loop-less c = search needs
-
 loop-again : tie.Need-loop-again Inv-loop μ-loop
 loop-again c =
     let inv = c .before .before .before .before .loop .inv in
@@ -88,7 +82,7 @@ carried-spec =
     slot-requires
     foot-requires
     returns
-    add-i
-    loop-less
+    (λ c. search needs)
+    (λ c. search needs)
     loop-again
     returns-2)

@@ -13,43 +13,16 @@ piece-requires c κs =
     let pre = c .pre .0 in
     (omega (arith, pre .0 .count), pre .0 .short _ (pre .1))
 
-sub-none : tie.Need-sub-none
-sub-none c = search needs
-
-part-none-start : tie.Need-part-none-start
-part-none-start c = search needs
-
-part-none-end : tie.Need-part-none-end
-part-none-end c = search needs
-
-key-requires : tie.Need-key-requires
-key-requires c κs = search needs
-
 fill-requires : tie.Need-fill-requires
 fill-requires c κs =
     let after-piece = c .before .before .before in
     let pre = after-piece .before .pre .0 in
     (pre .3, c .key .ensures .1, omega (arith, piece-fits _ (pre .0) (pre .1) (after-piece .piece .ensures)))
 
-cast-order : tie.Need-cast-order
-cast-order c = search needs
-
-element-write-order : tie.Need-element-write-order
-element-write-order c = search needs
-
-add-ends : tie.Need-add-ends
-add-ends c = search needs
-
-cast-ends : tie.Need-cast-ends
-cast-ends c = search needs
-
 level-requires : tie.Need-level-requires
 level-requires c κs =
     let pre = c .before .before .before .before .before .pre .0 in
     omega (arith, pre .0 .count)
-
-element-write-ends : tie.Need-element-write-ends
-element-write-ends c = search needs
 
 returns : tie.Need-returns
 returns c =
@@ -67,15 +40,15 @@ draft-lower-spec =
     tie.close
     (tie.spec
     piece-requires
-    sub-none
-    part-none-start
-    part-none-end
-    key-requires
+    (λ c. search needs)
+    (λ c. search needs)
+    (λ c. search needs)
+    (λ c κs. search needs)
     fill-requires
-    cast-order
-    element-write-order
-    add-ends
-    cast-ends
+    (λ c. search needs)
+    (λ c. search needs)
+    (λ c. search needs)
+    (λ c. search needs)
     level-requires
-    element-write-ends
+    (λ c. search needs)
     returns)

@@ -20,20 +20,11 @@ abbrev μ-loop : tie.MeasureT-loop
 cast-ends : tie.Need-cast-ends Inv-loop μ-loop
 cast-ends c = omega (arith, c .before .pre .0 .1 .few)
 
-element-write-ends : tie.Need-element-write-ends Inv-loop μ-loop
-element-write-ends c = search needs
-
-count-requires : tie.Need-count-requires Inv-loop μ-loop
-count-requires c κs = search needs
-
 loop-holds : tie.Need-loop-holds Inv-loop μ-loop
 loop-holds c =
     let pre = c .before .before .pre in
     let all = pre .1 .0 in
     (shaking-start _ (pre .0 .1) all (c .count .ensures .0), ranking-start _ _ (pre .1 .1) all)
-
-sub-i : tie.Need-sub-i Inv-loop μ-loop
-sub-i c = search needs
 
 stays-requires : tie.Need-stays-requires Inv-loop μ-loop
 stays-requires c κs =
@@ -61,12 +52,6 @@ draft-lower-requires c κs =
     let low = after-stays .stays .ensures .1 (then .if1 .taken) .0 in
     ((pre .0 .0, omega (arith, inv .within), ok, omega (arith, ok .few)), omega (arith, low, pre .1 .1))
 
-add-count : tie.Need-add-count Inv-loop μ-loop
-add-count c = search needs
-
-loop-less : tie.Need-loop-less Inv-loop μ-loop
-loop-less c = search needs
-
 loop-again : tie.Need-loop-again Inv-loop μ-loop
 loop-again c =
     let then = c .before .before .before .before .before in
@@ -80,9 +65,6 @@ loop-again c =
       shaking-met (pre .0 .0 .small) (inv .0) _ (omega arith) stays (told .0),
       rw (told .1) (ranking-met (omega arith) (pre .1 .2) (omega arith) (stays .0) (pre .1 .1) (inv .1) (told .0)),
     )
-
-loop-less-2 : tie.Need-loop-less-2 Inv-loop μ-loop
-loop-less-2 c = search needs
 
 loop-again-2 : tie.Need-loop-again-2 Inv-loop μ-loop
 loop-again-2 c =
@@ -106,16 +88,16 @@ shake-spec =
     Inv-loop
     μ-loop
     cast-ends
-    element-write-ends
-    count-requires
+    (λ c. search needs)
+    (λ c κs. search needs)
     loop-holds
-    sub-i
+    (λ c. search needs)
     stays-requires
     returns
     draft-lower-requires
-    add-count
-    loop-less
+    (λ c. search needs)
+    (λ c. search needs)
     loop-again
-    loop-less-2
+    (λ c. search needs)
     loop-again-2
     returns-2)

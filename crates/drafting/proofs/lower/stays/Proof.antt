@@ -9,14 +9,8 @@ use borrow.Author.Needs.{needs}
 use Rattle.drafting.proofs.lower.stays.Statement.{statement}
 use Rattle.drafting.proofs.lower.stays.Tie as tie
 
-level-requires : tie.Need-level-requires
-level-requires c κs = search needs
-
 returns : tie.Need-returns
 returns c = no-exact (λ h. omega (arith, h .0))
-
-seat-requires : tie.Need-seat-requires
-seat-requires c κs = search needs
 
 carried-requires : tie.Need-carried-requires
 carried-requires c κs =
@@ -33,4 +27,4 @@ returns-2 c =
     exact-as (λ h. (omega arith, rw seat at h), λ h. rw (← seat) at (h .1)) (c .carried .ensures)
 
 pub stays-spec : {M : Type 1} → statement M
-stays-spec = tie.close (tie.spec level-requires returns seat-requires carried-requires returns-2)
+stays-spec = tie.close (tie.spec (λ c κs. search needs) returns (λ c κs. search needs) carried-requires returns-2)

@@ -43,9 +43,6 @@ first-on-requires c κs =
     let one = c .before .before .pre .1 in
     (reads (c .before), λ k a l e. omega (arith, one .after k (omega (arith, one .within)) e))
 
-slot-requires : tie.Need-slot-requires Inv-loop μ-loop
-slot-requires c κs = search needs
-
 returns : tie.Need-returns Inv-loop μ-loop
 returns c =
     let after-first = c .before .before in
@@ -80,21 +77,12 @@ loop-holds c =
       narrowing-start told (omega arith) (after-slot .slot2 .ensures .0) (c .length .ensures .0),
     )
 
-slot-requires-3 : tie.Need-slot-requires-3 Inv-loop μ-loop
-slot-requires-3 c κs = search needs
-
 narrowed-requires : tie.Need-narrowed-requires Inv-loop μ-loop
 narrowed-requires c κs =
     let at-loop = c .before .before in
     let r = reads (at-loop .before .before .before .before .before .before) in
     let inv = at-loop .loop .inv .2 in
     (holds r (omega arith) (c .slot3 .ensures .0), holds-place r (inv .place), inv .short)
-
-add-i-2 : tie.Need-add-i-2 Inv-loop μ-loop
-add-i-2 c = search needs
-
-loop-less : tie.Need-loop-less Inv-loop μ-loop
-loop-less c = search needs
 
 loop-again : tie.Need-loop-again Inv-loop μ-loop
 loop-again c =
@@ -118,15 +106,15 @@ common-on-spec =
     add-start
     start-requires-2
     first-on-requires
-    slot-requires
+    (λ c κs. search needs)
     returns
     slot-requires-2
     length-requires
     add-i
     loop-holds
-    slot-requires-3
+    (λ c κs. search needs)
     narrowed-requires
-    add-i-2
-    loop-less
+    (λ c. search needs)
+    (λ c. search needs)
     loop-again
     returns-2)

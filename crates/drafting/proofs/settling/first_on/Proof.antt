@@ -19,9 +19,6 @@ abbrev μ-loop : tie.MeasureT-loop
 loop-holds : tie.Need-loop-holds Inv-loop μ-loop
 loop-holds c = c .pre .1
 
-slot-requires : tie.Need-slot-requires Inv-loop μ-loop
-slot-requires c κs = search needs
-
 foot-requires : tie.Need-foot-requires Inv-loop μ-loop
 foot-requires c κs = holds (c .before .before .before .pre .0) (omega arith) (c .slot .ensures .0) .within
 
@@ -40,12 +37,6 @@ returns c =
       before = λ k lt. c .before .before .before .before .loop .inv k lt (omega arith);
       found = λ lt. sym (looked (c .before)) ∙ c .if1 .taken;
     }
-
-add-i : tie.Need-add-i Inv-loop μ-loop
-add-i c = search needs
-
-loop-less : tie.Need-loop-less Inv-loop μ-loop
-loop-less c = search needs
 
 loop-again : tie.Need-loop-again Inv-loop μ-loop
 loop-again c =
@@ -67,10 +58,10 @@ first-on-spec =
     Inv-loop
     μ-loop
     loop-holds
-    slot-requires
+    (λ c κs. search needs)
     foot-requires
     returns
-    add-i
-    loop-less
+    (λ c. search needs)
+    (λ c. search needs)
     loop-again
     returns-2)

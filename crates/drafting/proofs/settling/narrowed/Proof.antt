@@ -8,31 +8,13 @@ use Rattle.drafting.proofs.Groups.{piece-length, narrowed-not, narrowed
 use Rattle.drafting.proofs.settling.narrowed.Statement.{statement}
 use Rattle.drafting.proofs.settling.narrowed.Tie as tie
 
-foot-requires : tie.Need-foot-requires
-foot-requires c κs = search needs
-
 returns : tie.Need-returns
 returns c = narrowed-not _ _ _ _ _ _ (c .before .foot .ensures) (c .if1 .taken)
-
-piece-requires : tie.Need-piece-requires
-piece-requires c κs = search needs
-
-piece-requires-2 : tie.Need-piece-requires-2
-piece-requires-2 c κs = search needs
-
-sub-common-length : tie.Need-sub-common-length
-sub-common-length c = search needs
-
-part-common-length-start : tie.Need-part-common-length-start
-part-common-length-start c = search needs
 
 part-common-length-end : tie.Need-part-common-length-end
 part-common-length-end c =
     let before = c .before .before .before .before in
     omega (arith, ap length (c .before .piece .ensures), piece-length (before .pre .1))
-
-common-length-requires : tie.Need-common-length-requires
-common-length-requires c κs = search needs
 
 returns-2 : tie.Need-returns-2
 returns-2 c =
@@ -48,12 +30,12 @@ pub narrowed-spec : {M : Type 1} → statement M
 narrowed-spec =
     tie.close
     (tie.spec
-    foot-requires
+    (λ c κs. search needs)
     returns
-    piece-requires
-    piece-requires-2
-    sub-common-length
-    part-common-length-start
+    (λ c κs. search needs)
+    (λ c κs. search needs)
+    (λ c. search needs)
+    (λ c. search needs)
     part-common-length-end
-    common-length-requires
+    (λ c κs. search needs)
     returns-2)

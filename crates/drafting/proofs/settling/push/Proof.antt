@@ -27,12 +27,6 @@ push-one-requires c κs =
     let one = on-seat (inv .0 .drafts) (inv .1) _ lt (at-loop .loop .i) (omega arith) (omega arith) in
     (pushing-reads (inv .0) lt, (one, pushing-room (inv .0) lt (at-loop .before .pre .0 .1)))
 
-add-i : tie.Need-add-i Inv-loop μ-loop
-add-i c = search needs
-
-loop-less : tie.Need-loop-less Inv-loop μ-loop
-loop-less c = search needs
-
 loop-again : tie.Need-loop-again Inv-loop μ-loop
 loop-again c =
     let e = c .push-one .ensures in
@@ -47,4 +41,4 @@ returns c = let inv = c .before .loop .inv in (pushing-all (inv .0) (omega arith
 pub push-spec : {M : Type 1} → statement M
 push-spec =
     tie.close
-    (tie.spec Inv-loop μ-loop loop-holds push-one-requires add-i loop-less loop-again returns)
+    (tie.spec Inv-loop μ-loop loop-holds push-one-requires (λ c. search needs) (λ c. search needs) loop-again returns)

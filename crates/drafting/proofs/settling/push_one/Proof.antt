@@ -13,9 +13,6 @@ use Rattle.drafting.proofs.Pushing.{pushed-none, pushed-some}
 use Rattle.drafting.proofs.settling.push_one.Statement.{statement}
 use Rattle.drafting.proofs.settling.push_one.Tie as tie
 
-slot-requires : tie.Need-slot-requires
-slot-requires c κs = search needs
-
 seat-requires : tie.Need-seat-requires
 seat-requires c κs = holds (c .before .before .pre .0) (omega arith) (c .before .slot .ensures .0) .within
 
@@ -42,12 +39,6 @@ append-requires c κs =
       (common .short, has-room (pre .0) is at common (pre .1 .1)),
     )
 
-mul-all : tie.Need-mul-all
-mul-all c = search needs
-
-slice-write-all : tie.Need-slice-write-all
-slice-write-all c = search needs
-
 returns : tie.Need-returns
 returns c =
     let after-common = c .before .before in
@@ -67,10 +58,10 @@ pub push-one-spec : {M : Type 1} → statement M
 push-one-spec =
     tie.close
     (tie.spec
-    slot-requires
+    (λ c κs. search needs)
     seat-requires
     common-on-requires
     append-requires
-    mul-all
-    slice-write-all
+    (λ c. search needs)
+    (λ c. search needs)
     returns)

@@ -6,33 +6,6 @@ use Rattle.drafting.proofs.Appended.{parts-apart, appended}
 use Rattle.drafting.proofs.slots.append.Statement.{statement}
 use Rattle.drafting.proofs.slots.append.Tie as tie
 
-key-requires : tie.Need-key-requires
-key-requires c κs = search needs
-
-length-requires : tie.Need-length-requires
-length-requires c κs = search needs
-
-mul-start : tie.Need-mul-start
-mul-start c = search needs
-
-add-write-head : tie.Need-add-write-head
-add-write-head c = search needs
-
-write-head-requires : tie.Need-write-head-requires
-write-head-requires c κs = search needs
-
-mul-copy-within : tie.Need-mul-copy-within
-mul-copy-within c = search needs
-
-add-copy-within : tie.Need-add-copy-within
-add-copy-within c = search needs
-
-add-copy-within-2 : tie.Need-add-copy-within-2
-add-copy-within-2 c = search needs
-
-add-copy-within-3 : tie.Need-add-copy-within-3
-add-copy-within-3 c = search needs
-
 copy-within-requires : tie.Need-copy-within-requires
 copy-within-requires c κs =
     let pre = c .before .before .before .before .before .before .before .before .before .pre in
@@ -54,14 +27,14 @@ pub append-spec : {M : Type 1} → statement M
 append-spec =
     tie.close
     (tie.spec
-    key-requires
-    length-requires
-    mul-start
-    add-write-head
-    write-head-requires
-    mul-copy-within
-    add-copy-within
-    add-copy-within-2
-    add-copy-within-3
+    (λ c κs. search needs)
+    (λ c κs. search needs)
+    (λ c. search needs)
+    (λ c. search needs)
+    (λ c κs. search needs)
+    (λ c. search needs)
+    (λ c. search needs)
+    (λ c. search needs)
+    (λ c. search needs)
     copy-within-requires
     returns)

@@ -17,20 +17,8 @@ abbrev μ-loop : tie.MeasureT-loop
 loop-holds : tie.Need-loop-holds Inv-loop μ-loop
 loop-holds c = (search needs, written-none _ _)
 
-shared-slice-read-work : tie.Need-shared-slice-read-work Inv-loop μ-loop
-shared-slice-read-work c = search needs
-
-add-work : tie.Need-add-work Inv-loop μ-loop
-add-work c = search needs
-
 slice-write-work : tie.Need-slice-write-work Inv-loop μ-loop
 slice-write-work c = omega (arith, c .before .before .loop .inv .1 .whole)
-
-add-i : tie.Need-add-i Inv-loop μ-loop
-add-i c = search needs
-
-loop-less : tie.Need-loop-less Inv-loop μ-loop
-loop-less c = search needs
 
 loop-again : tie.Need-loop-again Inv-loop μ-loop
 loop-again c = (omega arith, written-more _ _ (omega arith) (omega arith) (c .before .before .loop .inv .1))
@@ -48,11 +36,11 @@ copy-in-spec =
     Inv-loop
     μ-loop
     loop-holds
-    shared-slice-read-work
-    add-work
+    (λ c. search needs)
+    (λ c. search needs)
     slice-write-work
-    add-i
-    loop-less
+    (λ c. search needs)
+    (λ c. search needs)
     loop-again
     same-length
     returns)

@@ -1,40 +1,29 @@
 -- `ending::finishing::finish` meets its contract. Assumes nothing.
-use mathlib.Core.Path.{ap}
 use native.Mathlib.Omega.{arith}
 use Rattle.words.proofs.Lists.{byte-getD}
-use Rattle.checking.specs.Calls.{numberOf}
+use Rattle.words.proofs.Exact.{denied, granted}
 use Rattle.ending.proofs.Closing.{ended-bad-table}
 use borrow.Author.Needs.{needs}
 use Rattle.ending.proofs.finishing.finish.Statement.{statement}
 use Rattle.ending.proofs.finishing.finish.Tie as tie
 
-check-requires : tie.Need-check-requires
-check-requires c κs = search needs
-
-enum-told : tie.Need-enum-told
-enum-told c = search needs
-
-enum-told-2 : tie.Need-enum-told-2
-enum-told-2 c = search needs
+returns : tie.Need-returns
+returns c =
+    let checked = c .before .before .check .ensures in
+    ended-bad-table _ _ _ (checked .0) (checked .1) (denied (c .before .is-taken .ensures) (c .if1 .taken))
 
 of-table-requires : tie.Need-of-table-requires
 of-table-requires c κs =
     let told = c .before in
     let checked = told .before .before in
     let bytes = checked .before .before .shared-slice-known in (
-      checked .check .ensures .good .0 (ap numberOf (told .enum-told2 .given .1)),
+      checked .check .ensures .0 .good .0 (granted (told .before .is-taken .ensures) (told .if1 .left)),
       byte-getD _ (λ k. omega (arith, bytes .given k)),
     )
-
-returns : tie.Need-returns
-returns c = ended-bad-table _ _ _ (c .before .before .check .ensures .bad .0 (ap numberOf (c .enum-told .given .1)))
-
-same-length : tie.Need-same-length
-same-length c = search needs
 
 returns-2 : tie.Need-returns-2
 returns-2 c = search needs
 
 pub finish-spec : {M : Type 1} → statement M
 finish-spec =
-    tie.close (tie.spec check-requires enum-told enum-told-2 of-table-requires returns same-length returns-2)
+    tie.close (tie.spec (λ c κs. search needs) (λ c κs. search needs) returns of-table-requires (λ c. search needs) returns-2)

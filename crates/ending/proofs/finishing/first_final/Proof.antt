@@ -16,17 +16,8 @@ Inv-loop finals session n i₀ i = (i ≤ n) × ((k : ℕ) → k < i → finalAt
 abbrev μ-loop : tie.MeasureT-loop
 μ-loop finals session n i₀ i = n - i
 
-count-requires : tie.Need-count-requires Inv-loop μ-loop
-count-requires c κs = search needs
-
 loop-holds : tie.Need-loop-holds Inv-loop μ-loop
 loop-holds c = (omega arith, λ k lt. absurd (omega arith))
-
-state-requires : tie.Need-state-requires Inv-loop μ-loop
-state-requires c κs = search needs
-
-has-requires : tie.Need-has-requires Inv-loop μ-loop
-has-requires c κs = search needs
 
 -- what is looked at is the state of the link
 looked : (c : tie.After-has Inv-loop μ-loop) →
@@ -44,12 +35,6 @@ returns c =
       before = c .before .before .before .before .loop .inv .1;
       here = λ lt. sym (looked (c .before)) ∙ c .if1 .taken;
     }
-
-add-i : tie.Need-add-i Inv-loop μ-loop
-add-i c = search needs
-
-loop-less : tie.Need-loop-less Inv-loop μ-loop
-loop-less c = search needs
 
 loop-again : tie.Need-loop-again Inv-loop μ-loop
 loop-again c = (
@@ -71,12 +56,12 @@ first-final-spec =
     (tie.spec
     Inv-loop
     μ-loop
-    count-requires
+    (λ c κs. search needs)
     loop-holds
-    state-requires
-    has-requires
+    (λ c κs. search needs)
+    (λ c κs. search needs)
     returns
-    add-i
-    loop-less
+    (λ c. search needs)
+    (λ c. search needs)
     loop-again
     returns-2)

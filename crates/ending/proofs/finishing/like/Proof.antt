@@ -14,27 +14,15 @@ Inv-loop finals session i n j₀ j = (j ≤ n) × (i < j) × ((k : ℕ) → k < 
 abbrev μ-loop : tie.MeasureT-loop
 μ-loop finals session i n j₀ j = n - j
 
-count-requires : tie.Need-count-requires Inv-loop μ-loop
-count-requires c κs = search needs
-
 add-j : tie.Need-add-j Inv-loop μ-loop
 add-j c = omega (arith, c .before .pre .0 .count)
 
 loop-holds : tie.Need-loop-holds Inv-loop μ-loop
 loop-holds c = (omega arith, omega arith, λ k lt after. absurd (omega arith))
 
-like-at-requires : tie.Need-like-at-requires Inv-loop μ-loop
-like-at-requires c κs = search needs
-
 returns : tie.Need-returns Inv-loop μ-loop
 returns c =
     no-exact (λ l. denied (c .before .like-at .ensures) (c .if1 .taken) (l .each _ (omega arith) (omega arith)))
-
-add-j-2 : tie.Need-add-j-2 Inv-loop μ-loop
-add-j-2 c = search needs
-
-loop-less : tie.Need-loop-less Inv-loop μ-loop
-loop-less c = search needs
 
 loop-again : tie.Need-loop-again Inv-loop μ-loop
 loop-again c =
@@ -53,12 +41,12 @@ like-spec =
     (tie.spec
     Inv-loop
     μ-loop
-    count-requires
+    (λ c κs. search needs)
     add-j
     loop-holds
-    like-at-requires
+    (λ c κs. search needs)
     returns
-    add-j-2
-    loop-less
+    (λ c. search needs)
+    (λ c. search needs)
     loop-again
     returns-2)

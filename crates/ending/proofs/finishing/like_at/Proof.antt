@@ -10,12 +10,6 @@ use Rattle.ending.specs.Finishing.{finalAt}
 use Rattle.ending.proofs.finishing.like_at.Statement.{statement}
 use Rattle.ending.proofs.finishing.like_at.Tie as tie
 
-state-requires : tie.Need-state-requires
-state-requires c κs = search needs
-
-has-requires : tie.Need-has-requires
-has-requires c κs = search needs
-
 -- what is looked at is the state of the link
 looked : (c : tie.After-has) →
     let args = c .before .before .args in
@@ -37,9 +31,6 @@ piece-requires-2 c κs =
     let pre = c .before .before .before .before .pre in
     (omega (arith, pre .0 .count), pre .0 .short _ (omega arith))
 
-same-requires : tie.Need-same-requires
-same-requires c κs = search needs
-
 returns-2 : tie.Need-returns-2
 returns-2 c =
     let second = c .before in
@@ -56,10 +47,10 @@ pub like-at-spec : {M : Type 1} → statement M
 like-at-spec =
     tie.close
     (tie.spec
-    state-requires
-    has-requires
+    (λ c κs. search needs)
+    (λ c κs. search needs)
     returns
     piece-requires
     piece-requires-2
-    same-requires
+    (λ c κs. search needs)
     returns-2)

@@ -3,6 +3,7 @@ use mathlib.Core.Path.{ap}
 use native.Mathlib.Omega.{arith}
 use lib.ListN.{length}
 use Rattle.words.proofs.Exact.{denied, granted}
+use Rattle.stepping.proofs.Told.{ended}
 use Rattle.ending.proofs.Closing.{found-measured, ended-ambiguous, ended-no-room, ended-taken}
 use borrow.Author.Needs.{needs}
 use Rattle.ending.proofs.finishing.of_link.Statement.{statement}
@@ -13,8 +14,9 @@ like-requires c κs = let f = c .before .before .pre in (found-measured f, f .wi
 
 returns : tie.Need-returns
 returns c =
-    let f = c .before .before .before .before .pre in
-    ended-ambiguous f _ (denied (c .before .like .ensures) (c .if1 .taken))
+    let told = c .before in
+    let f = told .before .before .before .before .pre in
+    ended (c .refused .ensures) (ended-ambiguous f _ (denied (told .before .like .ensures) (told .if1 .taken)))
 
 piece-requires : tie.Need-piece-requires
 piece-requires c κs =
@@ -24,26 +26,34 @@ piece-requires c κs =
 
 returns-2 : tie.Need-returns-2
 returns-2 c =
-    let asked = c .before .before in
+    let read = c .before .before in
+    let asked = read .before in
     let f = asked .before .before .before .before .pre in
-    ended-no-room f _ (granted (asked .before .like .ensures) (asked .if1 .left))
-    (omega (arith, ap length (c .before .piece .ensures)))
-
-send-requires : tie.Need-send-requires
-send-requires c κs = search needs
-
-same-length : tie.Need-same-length
-same-length c = search needs
+    ended (c .refused2 .ensures)
+    (ended-no-room f _ (granted (asked .before .like .ensures) (asked .if1 .left))
+    (omega (arith, ap length (read .piece .ensures))))
 
 returns-3 : tie.Need-returns-3
 returns-3 c =
-    let sent = c .before .before in
+    let sent = c .before .before .before in
     let read = sent .before .before .before in
     let asked = read .before in
     let f = asked .before .before .before .before .pre in
-    ended-taken f _ (granted (asked .before .like .ensures) (asked .if1 .left)) (read .piece .ensures) (omega arith)
-    (sent .send .ensures)
+    ended (c .taken .ensures)
+    (ended-taken f _ (granted (asked .before .like .ensures) (asked .if1 .left)) (read .piece .ensures) (omega arith)
+    (sent .send .ensures))
 
 pub of-link-spec : {M : Type 1} → statement M
 of-link-spec =
-    tie.close (tie.spec like-requires returns piece-requires returns-2 send-requires same-length returns-3)
+    tie.close
+    (tie.spec
+    like-requires
+    (λ c κs. search needs)
+    returns
+    piece-requires
+    (λ c κs. search needs)
+    returns-2
+    (λ c κs. search needs)
+    (λ c κs. search needs)
+    (λ c. search needs)
+    returns-3)

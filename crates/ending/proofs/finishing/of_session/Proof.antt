@@ -1,4 +1,5 @@
 -- `ending::finishing::of_session` meets its contract. Assumes nothing.
+use Rattle.stepping.proofs.Told.{ended}
 use Rattle.ending.specs.Finishing.{Closed}
 use Rattle.ending.proofs.Closing.{ended-unclosed, ended-not-final}
 use native.Mathlib.Omega.{arith}
@@ -6,21 +7,10 @@ use borrow.Author.Needs.{needs}
 use Rattle.ending.proofs.finishing.of_session.Statement.{statement}
 use Rattle.ending.proofs.finishing.of_session.Tie as tie
 
-depth-requires : tie.Need-depth-requires
-depth-requires c κs = search needs
-
 returns : tie.Need-returns
 returns c =
-    ended-unclosed _ _ _ (c .before .before .before .before .pre) (λ z. omega arith)
-
-final-set-requires : tie.Need-final-set-requires
-final-set-requires c κs = search needs
-
-first-final-requires : tie.Need-first-final-requires
-first-final-requires c κs = search needs
-
-count-requires : tie.Need-count-requires
-count-requires c κs = search needs
+    ended (c .refused .ensures)
+    (ended-unclosed _ _ _ (c .before .before .before .before .before .pre) (λ z. omega arith))
 
 -- what is known of the session once it is closed
 closed : (c : tie.After-final-set) →
@@ -28,24 +18,22 @@ closed : (c : tie.After-final-set) →
     Closed (args .file .now) (args .session .now) (c .final-set .result)
 closed c =
     record {
-      ready = c .before .before .before .before .before .pre;
+      proper = c .before .before .before .before .before .pre;
       flat = omega arith;
       are = c .final-set .ensures;
     }
 
 returns-2 : tie.Need-returns-2
 returns-2 c =
-    let found = c .before .before in
-    ended-not-final (closed (found .before)) _ (found .first-final .ensures) (omega arith)
+    let found = c .before .before .before in
+    ended (c .refused2 .ensures)
+    (ended-not-final (closed (found .before)) _ (found .first-final .ensures) (omega arith))
 
 of-link-requires : tie.Need-of-link-requires
 of-link-requires c κs =
     let found = c .before .before .before in
     let place = found .first-final .ensures in
     record { closed = closed (found .before); place = place; within = omega (arith, place .within) }
-
-same-length : tie.Need-same-length
-same-length c = search needs
 
 returns-3 : tie.Need-returns-3
 returns-3 c = search needs
@@ -54,12 +42,14 @@ pub of-session-spec : {M : Type 1} → statement M
 of-session-spec =
     tie.close
     (tie.spec
-    depth-requires
+    (λ c κs. search needs)
+    (λ c κs. search needs)
     returns
-    final-set-requires
-    first-final-requires
-    count-requires
+    (λ c κs. search needs)
+    (λ c κs. search needs)
+    (λ c κs. search needs)
+    (λ c κs. search needs)
     returns-2
     of-link-requires
-    same-length
+    (λ c. search needs)
     returns-3)

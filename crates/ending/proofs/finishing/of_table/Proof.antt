@@ -1,18 +1,17 @@
 -- `ending::finishing::of_table` meets its contract. Assumes nothing.
 use Rattle.words.proofs.Exact.{denied, granted}
+use Rattle.stepping.proofs.Told.{ended}
 use Rattle.ending.proofs.Closing.{ended-bad-session}
 use borrow.Author.Needs.{needs}
 use Rattle.ending.proofs.finishing.of_table.Statement.{statement}
 use Rattle.ending.proofs.finishing.of_table.Tie as tie
 
-sound-requires : tie.Need-sound-requires
-sound-requires c κs = search needs
-
 returns : tie.Need-returns
 returns c =
-    let tested = c .before in
+    let told = c .before in
+    let tested = told .before in
     let good = tested .before .before .before .pre .0 in
-    ended-bad-session _ _ _ good (denied (tested .sound .ensures) (c .if1 .taken))
+    ended (c .refused .ensures) (ended-bad-session _ _ _ good (denied (tested .sound .ensures) (told .if1 .taken)))
 
 of-session-requires : tie.Need-of-session-requires
 of-session-requires c κs =
@@ -21,11 +20,8 @@ of-session-requires c κs =
     let pre = tested .before .before .before .pre in
     record { good = pre .0; small = pre .1; sound = granted (tested .sound .ensures) (told .if1 .left) }
 
-same-length : tie.Need-same-length
-same-length c = search needs
-
 returns-2 : tie.Need-returns-2
 returns-2 c = search needs
 
 pub of-table-spec : {M : Type 1} → statement M
-of-table-spec = tie.close (tie.spec sound-requires returns of-session-requires same-length returns-2)
+of-table-spec = tie.close (tie.spec (λ c κs. search needs) (λ c κs. search needs) returns of-session-requires (λ c. search needs) returns-2)

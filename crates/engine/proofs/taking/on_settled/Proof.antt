@@ -2,32 +2,22 @@
 use mathlib.Core.Path.{ap}
 use native.Mathlib.Omega.{arith}
 use lib.ListN.{length}
+use Rattle.stepping.proofs.Told.{answered}
 use Rattle.engine.proofs.Ended.{settled-backlog, settled-no-room, settled-part, settled-depth, settled-cuts}
 use Rattle.engine.proofs.Ended.{settled-taken}
 use borrow.Author.Needs.{needs}
 use Rattle.engine.proofs.taking.on_settled.Statement.{statement}
 use Rattle.engine.proofs.taking.on_settled.Tie as tie
 
-waiting-cap-requires : tie.Need-waiting-cap-requires
-waiting-cap-requires c κs = search needs
-
-longest-requires : tie.Need-longest-requires
-longest-requires c κs = search needs
-
 returns : tie.Need-returns
-returns c = settled-backlog (c .before .before .before .before .before .pre .0) _ (omega arith)
+returns c =
+    answered (c .refused .ensures)
+    (settled-backlog (c .before .before .before .before .before .before .pre .0) _ (omega arith))
 
 returns-2 : tie.Need-returns-2
-returns-2 c = settled-no-room (c .before .before .before .before .before .before .pre .0) (omega arith) _ (omega arith)
-
-piece-requires : tie.Need-piece-requires
-piece-requires c κs = search needs
-
-sub-send : tie.Need-sub-send
-sub-send c = search needs
-
-part-send-start : tie.Need-part-send-start
-part-send-start c = search needs
+returns-2 c =
+    let s = c .before .before .before .before .before .before .before .pre .0 in
+    answered (c .refused2 .ensures) (settled-no-room s (omega arith) _ (omega arith))
 
 part-send-end : tie.Need-part-send-end
 part-send-end c =
@@ -35,40 +25,39 @@ part-send-end c =
     let s = tested .before .before .before .before .before .before .pre .0 in
     omega (arith, ap length (c .before .piece .ensures), settled-part s)
 
-send-requires : tie.Need-send-requires
-send-requires c κs = search needs
-
 write-requires : tie.Need-write-requires
 write-requires c κs =
     let tested = c .before .before .before .before .before .before .before in
     let start = tested .before .before .before .before .before .before in
     let s = start .pre .0 in
     let cuts = settled-cuts s (omega arith) (start .args .out .now) (omega arith) in
-    (s .left .opened .ready .sound .kept, cuts, omega (arith, settled-depth s, s .drafts .few))
-
-same-length : tie.Need-same-length
-same-length c = search needs
+    (s .left .opened .proper .sound .kept, cuts, omega (arith, settled-depth s, s .drafts .few))
 
 returns-3 : tie.Need-returns-3
 returns-3 c =
-    let sent = c .before .before .before .before in
+    let wrote = c .before in
+    let sent = wrote .before .before .before .before in
     let read = sent .before .before .before in
     let s = read .before .before .before .before .before .before .before .pre .0 in
-    settled-taken s (omega arith) _ (omega arith) (c .write .ensures) (read .piece .ensures) (sent .send .ensures)
+    answered (c .taken .ensures)
+    (settled-taken s (omega arith) _ (omega arith) (wrote .write .ensures) (read .piece .ensures) (sent .send .ensures))
 
 pub on-settled-spec : {M : Type 1} → statement M
 on-settled-spec =
     tie.close
     (tie.spec
-    waiting-cap-requires
-    longest-requires
+    (λ c κs. search needs)
+    (λ c κs. search needs)
+    (λ c κs. search needs)
     returns
+    (λ c κs. search needs)
     returns-2
-    piece-requires
-    sub-send
-    part-send-start
+    (λ c κs. search needs)
+    (λ c. search needs)
+    (λ c. search needs)
     part-send-end
-    send-requires
+    (λ c κs. search needs)
     write-requires
-    same-length
+    (λ c κs. search needs)
+    (λ c. search needs)
     returns-3)

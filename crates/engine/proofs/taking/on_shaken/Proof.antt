@@ -32,9 +32,6 @@ on-settled-requires c κs =
     let told = pushed .push .ensures in
     (left-settled d (told .0) (common .common-on .ensures) (cut .cut-all .ensures), told .1)
 
-same-length : tie.Need-same-length
-same-length c = search needs
-
 returns : tie.Need-returns
 returns c = search needs
 
@@ -46,5 +43,5 @@ on-shaken-spec =
     common-on-requires
     cut-all-requires
     on-settled-requires
-    same-length
+    (λ c. search needs)
     returns)

@@ -9,12 +9,6 @@ use Rattle.engine.proofs.Rewritten.{written-all}
 use Rattle.engine.proofs.write.write.Statement.{statement}
 use Rattle.engine.proofs.write.write.Tie as tie
 
-count-requires : tie.Need-count-requires
-count-requires c κs = search needs
-
-larger-requires : tie.Need-larger-requires
-larger-requires c κs = search needs
-
 -- the places below the larger of the two counts are all that are used, before or after
 bounds : (c : tie.After-larger) →
     let r = c .larger .result in
@@ -32,9 +26,6 @@ write-places-requires c κs =
     let few = bounds (c .before) in
     ((few .2, λ i lt. tidy-kept (pre .0) i (omega arith)), pre .1)
 
-set-head-requires : tie.Need-set-head-requires
-set-head-requires c κs = search needs
-
 returns : tie.Need-returns
 returns c =
     let written = c .before .before in
@@ -48,4 +39,4 @@ returns c =
 pub write-spec : {M : Type 1} → statement M
 write-spec =
     tie.close
-    (tie.spec count-requires larger-requires write-places-requires set-head-requires returns)
+    (tie.spec (λ c κs. search needs) (λ c κs. search needs) write-places-requires (λ c κs. search needs) returns)

@@ -28,12 +28,6 @@ write-place-requires c κs =
     let inside : p < 64 = omega arith in
     ((inside, tidy-same (at-loop .loop .inv .1 .rest p (omega arith) inside) (pre .0 .1 p (omega arith))), pre .1)
 
-add-p : tie.Need-add-p Inv-loop μ-loop
-add-p c = search needs
-
-loop-less : tie.Need-loop-less Inv-loop μ-loop
-loop-less c = search needs
-
 loop-again : tie.Need-loop-again Inv-loop μ-loop
 loop-again c =
     let at-loop = c .before .before .before in
@@ -48,4 +42,4 @@ returns c =
 pub write-places-spec : {M : Type 1} → statement M
 write-places-spec =
     tie.close
-    (tie.spec Inv-loop μ-loop loop-holds write-place-requires add-p loop-less loop-again returns)
+    (tie.spec Inv-loop μ-loop loop-holds write-place-requires (λ c. search needs) (λ c. search needs) loop-again returns)

@@ -6,12 +6,6 @@ use borrow.Author.Needs.{needs}
 use Rattle.growing.proofs.growth.add.Statement.{statement}
 use Rattle.growing.proofs.growth.add.Tie as tie
 
-enum-told : tie.Need-enum-told
-enum-told c = search needs
-
-enum-known-growth : tie.Need-enum-known-growth
-enum-known-growth c = search needs
-
 put-requires : tie.Need-put-requires
 put-requires c κs =
     let matched = c .before .before .before in
@@ -19,24 +13,12 @@ put-requires c κs =
     let g = pre .0 .1 .made _ _ (matched .growth .given .1) in
     ((g .drafts, gathered-rises g), pre .1)
 
-enum-told-2 : tie.Need-enum-told-2
-enum-told-2 c = search needs
-
-enum-told-3 : tie.Need-enum-told-3
-enum-told-3 c = search needs
-
-enum-told-4 : tie.Need-enum-told-4
-enum-told-4 c = search needs
-
 add-t15 : tie.Need-add-t15
 add-t15 c =
     let matched = c .before .before .before .before .before .before in
     let few =
     matched .before .before .before .before .before .pre .0 .1 .made _ _ (matched .growth .given .1) .drafts .few in
     omega arith
-
-enum-told-5 : tie.Need-enum-told-5
-enum-told-5 c = search needs
 
 returns : tie.Need-returns
 returns c = λ l p e made g. full-more _ (c .enum-told .given .1) g
@@ -69,14 +51,14 @@ pub add-spec : {M : Type 1} → statement M
 add-spec =
     tie.close
     (tie.spec
-    enum-told
-    enum-known-growth
+    (λ c. search needs)
+    (λ c. search needs)
     put-requires
-    enum-told-2
-    enum-told-3
-    enum-told-4
+    (λ c. search needs)
+    (λ c. search needs)
+    (λ c. search needs)
     add-t15
-    enum-told-5
+    (λ c. search needs)
     returns
     returns-2
     returns-3

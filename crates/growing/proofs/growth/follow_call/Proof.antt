@@ -10,30 +10,6 @@ use borrow.Author.Needs.{needs}
 use Rattle.growing.proofs.growth.follow_call.Statement.{statement}
 use Rattle.growing.proofs.growth.follow_call.Tie as tie
 
-state-requires : tie.Need-state-requires
-state-requires c κs = search needs
-
-mul-below : tie.Need-mul-below
-mul-below c = search needs
-
-marker-requires : tie.Need-marker-requires
-marker-requires c κs = search needs
-
-add-below : tie.Need-add-below
-add-below c = search needs
-
-level-requires : tie.Need-level-requires
-level-requires c κs = search needs
-
-add-number : tie.Need-add-number
-add-number c = search needs
-
-row-to-requires : tie.Need-row-to-requires
-row-to-requires c κs = search needs
-
-row-marker-requires : tie.Need-row-marker-requires
-row-marker-requires c κs = search needs
-
 number-requires : tie.Need-number-requires
 number-requires c κs =
     let plain = fitting-only (c .before .before .before .before .before .before .pre .1 .1) .0 in
@@ -43,24 +19,6 @@ row-word-requires : tie.Need-row-word-requires
 row-word-requires c κs =
     let pre = c .before .before .before .before .before .before .before .pre in
     good-word _ _ (pre .0 .0 .good) (pre .0 .2)
-
-sub-add : tie.Need-sub-add
-sub-add c = search needs
-
-part-add-start : tie.Need-part-add-start
-part-add-start c = search needs
-
-part-add-end : tie.Need-part-add-end
-part-add-end c = search needs
-
-sub-add-2 : tie.Need-sub-add-2
-sub-add-2 c = search needs
-
-part-add-start-2 : tie.Need-part-add-start-2
-part-add-start-2 c = search needs
-
-part-add-end-2 : tie.Need-part-add-end-2
-part-add-end-2 c = search needs
 
 add-requires : tie.Need-add-requires
 add-requires c κs =
@@ -92,21 +50,21 @@ pub follow-call-spec : {M : Type 1} → statement M
 follow-call-spec =
     tie.close
     (tie.spec
-    state-requires
-    mul-below
-    marker-requires
-    add-below
-    level-requires
-    add-number
-    row-to-requires
-    row-marker-requires
+    (λ c κs. search needs)
+    (λ c. search needs)
+    (λ c κs. search needs)
+    (λ c. search needs)
+    (λ c κs. search needs)
+    (λ c. search needs)
+    (λ c κs. search needs)
+    (λ c κs. search needs)
     number-requires
     row-word-requires
-    sub-add
-    part-add-start
-    part-add-end
-    sub-add-2
-    part-add-start-2
-    part-add-end-2
+    (λ c. search needs)
+    (λ c. search needs)
+    (λ c. search needs)
+    (λ c. search needs)
+    (λ c. search needs)
+    (λ c. search needs)
     add-requires
     returns)

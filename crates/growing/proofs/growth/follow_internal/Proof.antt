@@ -10,9 +10,6 @@ use borrow.Author.Needs.{needs}
 use Rattle.growing.proofs.growth.follow_internal.Statement.{statement}
 use Rattle.growing.proofs.growth.follow_internal.Tie as tie
 
-row-to-requires : tie.Need-row-to-requires
-row-to-requires c κs = search needs
-
 moved-requires : tie.Need-moved-requires
 moved-requires c κs =
     let pre = c .before .before .pre in
@@ -23,15 +20,6 @@ piece-requires c κs = let pre = c .before .before .before .pre in piece-stands 
 
 row-word-requires : tie.Need-row-word-requires
 row-word-requires c κs = let pre = c .before .before .before .before .pre in good-word _ _ (pre .0 .0 .good) (pre .0 .2)
-
-sub-add : tie.Need-sub-add
-sub-add c = search needs
-
-part-add-start : tie.Need-part-add-start
-part-add-start c = search needs
-
-part-add-end : tie.Need-part-add-end
-part-add-end c = search needs
 
 add-requires : tie.Need-add-requires
 add-requires c κs =
@@ -55,12 +43,12 @@ pub follow-internal-spec : {M : Type 1} → statement M
 follow-internal-spec =
     tie.close
     (tie.spec
-    row-to-requires
+    (λ c κs. search needs)
     moved-requires
     piece-requires
     row-word-requires
-    sub-add
-    part-add-start
-    part-add-end
+    (λ c. search needs)
+    (λ c. search needs)
+    (λ c. search needs)
     add-requires
     returns)

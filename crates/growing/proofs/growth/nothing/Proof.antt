@@ -6,9 +6,6 @@ use borrow.Author.Needs.{needs}
 use Rattle.growing.proofs.growth.nothing.Statement.{statement}
 use Rattle.growing.proofs.growth.nothing.Tie as tie
 
-made-requires : tie.Need-made-requires
-made-requires c κs = search needs
-
 returns : tie.Need-returns
 returns c =
     let start = c .before .before .before in
@@ -17,4 +14,4 @@ returns c =
     (grown-made (gathered-none (start .pre .0) (byte-getD _ (λ k. omega (arith, bytes k))) (start .pre .1)))
 
 pub nothing-spec : {M : Type 1} → statement M
-nothing-spec = tie.close (tie.spec made-requires returns)
+nothing-spec = tie.close (tie.spec (λ c κs. search needs) returns)

@@ -11,23 +11,11 @@ use borrow.Author.Needs.{needs}
 use Rattle.joiner.proofs.gathering.call_goal.Statement.{statement}
 use Rattle.joiner.proofs.gathering.call_goal.Tie as tie
 
-row-marker-requires : tie.Need-row-marker-requires
-row-marker-requires c κs = search needs
-
 cast-marker : tie.Need-cast-marker
 cast-marker c =
     let start = c .before .before .before in
     let small = getD-byte _ (start .pre .small .hops .first-bytes) (rowStart (start .args .x) + 3) in
     omega (arith, c .row-marker .ensures)
-
-enum-told : tie.Need-enum-told
-enum-told c = search needs
-
-enum-told-2 : tie.Need-enum-told-2
-enum-told-2 c = search needs
-
-row-symbol-requires : tie.Need-row-symbol-requires
-row-symbol-requires c κs = search needs
 
 cast-symbol : tie.Need-cast-symbol
 cast-symbol c =
@@ -35,16 +23,10 @@ cast-symbol c =
     let small = getD-byte _ (start .pre .small .hops .first-bytes) (rowStart (start .args .x)) in
     omega (arith, c .row-symbol .ensures)
 
-row-from-requires : tie.Need-row-from-requires
-row-from-requires c κs = search needs
-
 pair-number-requires : tie.Need-pair-number-requires
 pair-number-requires c κs =
     let pre = c .before .before .before .before .before .before .before .pre in
     (pre .small .hops .second, from-byte pre (c .row-from .ensures))
-
-row-to-requires : tie.Need-row-to-requires
-row-to-requires c κs = search needs
 
 pair-number-requires-2 : tie.Need-pair-number-requires-2
 pair-number-requires-2 c κs =
@@ -70,15 +52,15 @@ pub call-goal-spec : {M : Type 1} → statement M
 call-goal-spec =
     tie.close
     (tie.spec
-    row-marker-requires
+    (λ c κs. search needs)
     cast-marker
-    enum-told
-    enum-told-2
-    row-symbol-requires
+    (λ c. search needs)
+    (λ c. search needs)
+    (λ c κs. search needs)
     cast-symbol
-    row-from-requires
+    (λ c κs. search needs)
     pair-number-requires
-    row-to-requires
+    (λ c κs. search needs)
     pair-number-requires-2
     returns
     returns-2)

@@ -11,33 +11,21 @@ use borrow.Author.Needs.{needs}
 use Rattle.joiner.proofs.gathering.close_goal.Statement.{statement}
 use Rattle.joiner.proofs.gathering.close_goal.Tie as tie
 
-row-symbol-requires : tie.Need-row-symbol-requires
-row-symbol-requires c κs = search needs
-
 cast-symbol : tie.Need-cast-symbol
 cast-symbol c =
     let start = c .before .before .before in
     let small = getD-byte _ (start .pre .0 .small .hops .first-bytes) (rowStart (start .args .x)) in
     omega (arith, c .row-symbol .ensures)
 
-row-from-requires : tie.Need-row-from-requires
-row-from-requires c κs = search needs
-
 pair-number-requires : tie.Need-pair-number-requires
 pair-number-requires c κs =
     let pre = c .before .before .before .before .pre .0 in
     (pre .small .hops .second, from-byte pre (c .row-from .ensures))
 
-row-to-requires : tie.Need-row-to-requires
-row-to-requires c κs = search needs
-
 pair-number-requires-2 : tie.Need-pair-number-requires-2
 pair-number-requires-2 c κs =
     let pre = c .before .before .before .before .before .before .pre .0 in
     (pre .small .hops .second, to-byte pre (c .row-to .ensures))
-
-cast-marker : tie.Need-cast-marker
-cast-marker c = search needs
 
 returns : tie.Need-returns
 returns c =
@@ -53,11 +41,11 @@ pub close-goal-spec : {M : Type 1} → statement M
 close-goal-spec =
     tie.close
     (tie.spec
-    row-symbol-requires
+    (λ c κs. search needs)
     cast-symbol
-    row-from-requires
+    (λ c κs. search needs)
     pair-number-requires
-    row-to-requires
+    (λ c κs. search needs)
     pair-number-requires-2
-    cast-marker
+    (λ c. search needs)
     returns)

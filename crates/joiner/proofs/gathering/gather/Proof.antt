@@ -20,12 +20,6 @@ abbrev μ-loop : tie.MeasureT-loop
     order made x =
     n - x
 
-row-count-requires : tie.Need-row-count-requires Inv-loop μ-loop
-row-count-requires c κs = search needs
-
-start-requires : tie.Need-start-requires Inv-loop μ-loop
-start-requires c κs = search needs
-
 loop-holds : tie.Need-loop-holds Inv-loop μ-loop
 loop-holds c = (omega arith, passing-start)
 
@@ -38,12 +32,6 @@ gather-row-requires c κs =
       (pre .0, omega (arith, in-loop .loop-test .taken, begun .before .row-count .ensures)),
       (pre .1, passing-ready (at-loop .loop .inv .1) ([], begun .start .ensures _ _ _)),
     )
-
-add-x : tie.Need-add-x Inv-loop μ-loop
-add-x c = search needs
-
-loop-less : tie.Need-loop-less Inv-loop μ-loop
-loop-less c = search needs
 
 loop-again : tie.Need-loop-again Inv-loop μ-loop
 loop-again c =
@@ -64,11 +52,11 @@ gather-spec =
     (tie.spec
     Inv-loop
     μ-loop
-    row-count-requires
-    start-requires
+    (λ c κs. search needs)
+    (λ c κs. search needs)
     loop-holds
     gather-row-requires
-    add-x
-    loop-less
+    (λ c. search needs)
+    (λ c. search needs)
     loop-again
     returns)

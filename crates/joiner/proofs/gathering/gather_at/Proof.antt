@@ -26,15 +26,6 @@ module _ (c : tie.After-planned) where
       planOf (a .wanted) class-of (a .first .now) (a .second .now) (a .x) (a .q) ≡ p
   is e = sym (c .planned .ensures) ∙ e
 
-planned-requires : tie.Need-planned-requires
-planned-requires c κs = search needs
-
-enum-told : tie.Need-enum-told
-enum-told c = search needs
-
-enum-known-goal : tie.Need-enum-known-goal
-enum-known-goal c = search needs
-
 read-row-requires : tie.Need-read-row-requires
 read-row-requires c κs =
     let read = c .before .before .before .before .before .before in
@@ -44,9 +35,6 @@ read-row-requires c κs =
     let reading = plan-read (a .first .now) (a .second .now) (a .x) (a .q) (pre .0) (a .wanted) (class-of planned)
     (pre .1 .0 .are) refl (is planned (read .goal .given .1)) in
     ((pre .0, omega arith), (pre .1 .0 .numbered, (reading .suited, pre .1 .1)))
-
-enum-told-2 : tie.Need-enum-told-2
-enum-told-2 c = search needs
 
 return-rows-requires : tie.Need-return-rows-requires
 return-rows-requires c κs =
@@ -90,11 +78,11 @@ pub gather-at-spec : {M : Type 1} → statement M
 gather-at-spec =
     tie.close
     (tie.spec
-    planned-requires
-    enum-told
-    enum-known-goal
+    (λ c κs. search needs)
+    (λ c. search needs)
+    (λ c. search needs)
     read-row-requires
-    enum-told-2
+    (λ c. search needs)
     return-rows-requires
     returns
     returns-2

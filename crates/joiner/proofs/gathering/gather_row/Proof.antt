@@ -19,9 +19,6 @@ abbrev μ-loop : tie.MeasureT-loop
     starts order made q =
     n - q
 
-states-requires : tie.Need-states-requires Inv-loop μ-loop
-states-requires c κs = search needs
-
 loop-holds : tie.Need-loop-holds Inv-loop μ-loop
 loop-holds c = (omega arith, passing-start)
 
@@ -37,12 +34,6 @@ gather-at-requires c κs =
       },
       (pre .1 .0, passing-ready (at-loop .loop .inv .1) (pre .1 .1)),
     )
-
-add-q : tie.Need-add-q Inv-loop μ-loop
-add-q c = search needs
-
-loop-less : tie.Need-loop-less Inv-loop μ-loop
-loop-less c = search needs
 
 loop-again : tie.Need-loop-again Inv-loop μ-loop
 loop-again c =
@@ -60,4 +51,4 @@ returns c =
 pub gather-row-spec : {M : Type 1} → statement M
 gather-row-spec =
     tie.close
-    (tie.spec Inv-loop μ-loop states-requires loop-holds gather-at-requires add-q loop-less loop-again returns)
+    (tie.spec Inv-loop μ-loop (λ c κs. search needs) loop-holds gather-at-requires (λ c. search needs) (λ c. search needs) loop-again returns)

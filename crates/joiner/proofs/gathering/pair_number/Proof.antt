@@ -13,9 +13,6 @@ product : (c : tie.After-states)
     a .p * c .states .result ≡ a .p * tableOf (a .second .now) .states
 product c = ap (λ (n : ℕ). c .before .before .args .p * n) (c .states .ensures)
 
-states-requires : tie.Need-states-requires
-states-requires c κs = search needs
-
 mul-result : tie.Need-mul-result
 mul-result c = omega (arith, product c, c .before .before .pre .1)
 
@@ -29,4 +26,4 @@ returns : tie.Need-returns
 returns c = omega (arith, product c)
 
 pub pair-number-spec : {M : Type 1} → statement M
-pair-number-spec = tie.close (tie.spec states-requires mul-result add-result cast-result returns)
+pair-number-spec = tie.close (tie.spec (λ c κs. search needs) mul-result add-result cast-result returns)

@@ -3,39 +3,6 @@ use borrow.Author.Needs.{needs}
 use Rattle.joiner.proofs.gathering.planned.Statement.{statement}
 use Rattle.joiner.proofs.gathering.planned.Tie as tie
 
-row-class-requires : tie.Need-row-class-requires
-row-class-requires c κs = search needs
-
-enum-told : tie.Need-enum-told
-enum-told c = search needs
-
-enum-told-2 : tie.Need-enum-told-2
-enum-told-2 c = search needs
-
-call-goal-requires : tie.Need-call-goal-requires
-call-goal-requires c κs = search needs
-
-enum-told-3 : tie.Need-enum-told-3
-enum-told-3 c = search needs
-
-enum-told-4 : tie.Need-enum-told-4
-enum-told-4 c = search needs
-
-enum-told-5 : tie.Need-enum-told-5
-enum-told-5 c = search needs
-
-enum-told-6 : tie.Need-enum-told-6
-enum-told-6 c = search needs
-
-enum-told-7 : tie.Need-enum-told-7
-enum-told-7 c = search needs
-
-enum-told-8 : tie.Need-enum-told-8
-enum-told-8 c = search needs
-
-close-goal-requires : tie.Need-close-goal-requires
-close-goal-requires c κs = search needs
-
 returns : tie.Need-returns
 returns c = rw (← c .before .before .row-class .ensures, c .enum-told .given .1)
 
@@ -74,17 +41,17 @@ pub planned-spec : {M : Type 1} → statement M
 planned-spec =
     tie.close
     (tie.spec
-    row-class-requires
-    enum-told
-    enum-told-2
-    call-goal-requires
-    enum-told-3
-    enum-told-4
-    enum-told-5
-    enum-told-6
-    enum-told-7
-    enum-told-8
-    close-goal-requires
+    (λ c κs. search needs)
+    (λ c. search needs)
+    (λ c. search needs)
+    (λ c κs. search needs)
+    (λ c. search needs)
+    (λ c. search needs)
+    (λ c. search needs)
+    (λ c. search needs)
+    (λ c. search needs)
+    (λ c. search needs)
+    (λ c κs. search needs)
     returns
     returns-2
     returns-3

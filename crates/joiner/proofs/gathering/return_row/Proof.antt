@@ -32,17 +32,8 @@ left-long c = simp length-take (omega (arith, long c .1))
 head-is : (c : tie.After-wide) → c .wide .result ≡ getD (key-of (c .before .before)) 0 0
 head-is c = c .wide .ensures .0 ∙ ap (λ (w : Word). getD w 0 0) (c .before .before .word .ensures)
 
-word-requires : tie.Need-word-requires
-word-requires c κs = search needs
-
 shared-slice-read-wide : tie.Need-shared-slice-read-wide
 shared-slice-read-wide c = omega (arith, long (c .before) .0)
-
-wide-requires : tie.Need-wide-requires
-wide-requires c κs = search needs
-
-row-marker-requires : tie.Need-row-marker-requires
-row-marker-requires c κs = search needs
 
 returns : tie.Need-returns
 returns c =
@@ -58,17 +49,8 @@ sub-left c = omega (arith, long (c .before .before .before .before) .0)
 part-left-start : tie.Need-part-left-start
 part-left-start c = omega (arith, long (c .before .before .before .before) .0)
 
-part-left-end : tie.Need-part-left-end
-part-left-end c = search needs
-
 copy-requires : tie.Need-copy-requires
 copy-requires c κs = omega (arith, left-long (c .before .before .before .before .before .before))
-
-add-close-goal : tie.Need-add-close-goal
-add-close-goal c = search needs
-
-close-goal-requires : tie.Need-close-goal-requires
-close-goal-requires c κs = search needs
 
 read-row-requires : tie.Need-read-row-requires
 read-row-requires c κs =
@@ -101,16 +83,16 @@ pub return-row-spec : {M : Type 1} → statement M
 return-row-spec =
     tie.close
     (tie.spec
-    word-requires
+    (λ c κs. search needs)
     shared-slice-read-wide
-    wide-requires
-    row-marker-requires
+    (λ c κs. search needs)
+    (λ c κs. search needs)
     returns
     sub-left
     part-left-start
-    part-left-end
+    (λ c. search needs)
     copy-requires
-    add-close-goal
-    close-goal-requires
+    (λ c. search needs)
+    (λ c κs. search needs)
     read-row-requires
     returns-2)

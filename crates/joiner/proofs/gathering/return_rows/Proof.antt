@@ -32,12 +32,6 @@ return-row-requires c κs =
     let ready = passing-ready (at-loop .loop .inv .1) (pre .1 .1) in
     ((pre .0 .0, omega (arith, in-loop .loop-test .taken)), (pre .1 .0, ready))
 
-add-i : tie.Need-add-i Inv-loop μ-loop
-add-i c = search needs
-
-loop-less : tie.Need-loop-less Inv-loop μ-loop
-loop-less c = search needs
-
 loop-again : tie.Need-loop-again Inv-loop μ-loop
 loop-again c =
     let in-loop = c .before .before .before .before .before .before in
@@ -54,4 +48,4 @@ returns c =
 pub return-rows-spec : {M : Type 1} → statement M
 return-rows-spec =
     tie.close
-    (tie.spec Inv-loop μ-loop loop-holds return-row-requires add-i loop-less loop-again returns)
+    (tie.spec Inv-loop μ-loop loop-holds return-row-requires (λ c. search needs) (λ c. search needs) loop-again returns)

@@ -18,9 +18,6 @@ Inv-loop file n i₀ i = (i ≤ n) × ((k : ℕ) → k < i → length (wordOf fi
 abbrev μ-loop : tie.MeasureT-loop
 μ-loop file n i₀ i = n - i
 
-row-count-requires : tie.Need-row-count-requires Inv-loop μ-loop
-row-count-requires c κs = search needs
-
 loop-holds : tie.Need-loop-holds Inv-loop μ-loop
 loop-holds c = (omega arith, λ k lt. absurd (omega arith))
 
@@ -37,12 +34,6 @@ returns c =
     let i = at-loop .loop .i in
     yes-exact
     (rowAt file i, row-among file i (omega arith), omega (arith, ap length (c .before .row-word .ensures)))
-
-add-i : tie.Need-add-i Inv-loop μ-loop
-add-i c = search needs
-
-loop-less : tie.Need-loop-less Inv-loop μ-loop
-loop-less c = search needs
 
 loop-again : tie.Need-loop-again Inv-loop μ-loop
 loop-again c = (
@@ -64,11 +55,11 @@ long-words-spec =
     (tie.spec
     Inv-loop
     μ-loop
-    row-count-requires
+    (λ c κs. search needs)
     loop-holds
     row-word-requires
     returns
-    add-i
-    loop-less
+    (λ c. search needs)
+    (λ c. search needs)
     loop-again
     returns-2)

@@ -16,17 +16,11 @@ use Rattle.joiner.proofs.hops.on_both.Tie as tie
 product : {a b m n : ℕ} → a ≡ m → b ≡ n → a * b ≡ m * n
 product e f = λ i. e i * f i
 
-nests-requires : tie.Need-nests-requires
-nests-requires c κs = search needs
-
 returns : tie.Need-returns
 returns c =
     let asked = c .before in
     let h = asked .before .before .before .before .pre in
     joins-not-nested _ _ _ (h .first) (h .second) (denied (asked .nests .ensures) (c .if1 .taken))
-
-long-words-requires : tie.Need-long-words-requires
-long-words-requires c κs = search needs
 
 returns-2 : tie.Need-returns-2
 returns-2 c =
@@ -34,12 +28,6 @@ returns-2 c =
     let h = asked .before .before .before .before .before .pre in
     joins-too-large _ _ _ (h .first) (h .second) (granted (asked .before .nests .ensures) (asked .if1 .left))
     (inl (c .before .long-words .ensures .1 (c .if2 .taken)))
-
-states-requires : tie.Need-states-requires
-states-requires c κs = search needs
-
-states-requires-2 : tie.Need-states-requires-2
-states-requires-2 c κs = search needs
 
 mul-if3 : tie.Need-mul-if3
 mul-if3 c =
@@ -72,9 +60,6 @@ on-nested-requires c κs =
       nest = granted (asked .before .nests .ensures) (asked .if1 .left);
     }
 
-same-length : tie.Need-same-length
-same-length c = search needs
-
 returns-4 : tie.Need-returns-4
 returns-4 c = search needs
 
@@ -82,14 +67,14 @@ pub on-both-spec : {M : Type 1} → statement M
 on-both-spec =
     tie.close
     (tie.spec
-    nests-requires
+    (λ c κs. search needs)
     returns
-    long-words-requires
+    (λ c κs. search needs)
     returns-2
-    states-requires
-    states-requires-2
+    (λ c κs. search needs)
+    (λ c κs. search needs)
     mul-if3
     returns-3
     on-nested-requires
-    same-length
+    (λ c. search needs)
     returns-4)

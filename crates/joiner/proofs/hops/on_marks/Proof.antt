@@ -16,12 +16,6 @@ rows-requires c κs =
     let m = c .before .before .before .before .before .before .before .before .before .pre in
     (m .nested .small, marked-all (m .held) (omega arith))
 
-enum-told : tie.Need-enum-told
-enum-told c = search needs
-
-enum-known-count : tie.Need-enum-known-count
-enum-known-count c = search needs
-
 on-rows-requires : tie.Need-on-rows-requires
 on-rows-requires c κs =
     let told = c .before .before .before .before .before in
@@ -38,9 +32,6 @@ returns-2 c =
     let m = gathered .before .before .before .before .before .before .before .before .before .before .pre in
     nested-rows-full (m .nested) _ (gathered .rows .ensures .full (c .enum-told .given .1))
 
-same-length : tie.Need-same-length
-same-length c = search needs
-
 returns-3 : tie.Need-returns-3
 returns-3 c = search needs
 
@@ -50,9 +41,9 @@ on-marks-spec =
     (tie.spec
     returns
     rows-requires
-    enum-told
-    enum-known-count
+    (λ c. search needs)
+    (λ c. search needs)
     on-rows-requires
     returns-2
-    same-length
+    (λ c. search needs)
     returns-3)

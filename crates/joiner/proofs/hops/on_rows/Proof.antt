@@ -57,9 +57,6 @@ write-requires c κs =
     let start = asked .before .before .before .before .before in
     hopped-laying (start .pre) _ (short asked) (omega arith) (omega arith) _ refl refl (omega arith)
 
-same-length : tie.Need-same-length
-same-length c = search needs
-
 returns-4 : tie.Need-returns-4
 returns-4 c =
     let written = c .before .before in
@@ -84,5 +81,5 @@ on-rows-spec =
     add-if3-2
     returns-3
     write-requires
-    same-length
+    (λ c. search needs)
     returns-4)

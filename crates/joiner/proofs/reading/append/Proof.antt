@@ -24,9 +24,6 @@ short c =
 copy-requires : tie.Need-copy-requires
 copy-requires c κs = omega (arith, short (c .before .before), ap length (c .before .row-word .ensures))
 
-add-result : tie.Need-add-result
-add-result c = search needs
-
 returns : tie.Need-returns
 returns c =
     let read = c .before .before in
@@ -34,4 +31,4 @@ returns c =
     appended (read .row-word .ensures) (c .copy .ensures) (omega (arith, ap length (read .row-word .ensures))) s
 
 pub append-spec : {M : Type 1} → statement M
-append-spec = tie.close (tie.spec row-word-requires copy-requires add-result returns)
+append-spec = tie.close (tie.spec row-word-requires copy-requires (λ c. search needs) returns)

@@ -7,40 +7,13 @@ use borrow.Author.Needs.{needs}
 use Rattle.joiner.proofs.reading.fits.Statement.{statement}
 use Rattle.joiner.proofs.reading.fits.Tie as tie
 
-row-from-requires : tie.Need-row-from-requires
-row-from-requires c κs = search needs
-
 returns : tie.Need-returns
 returns c = record { within = omega arith; exact = no-exact (λ h. omega (arith, h .from)) }
-
-enum-told : tie.Need-enum-told
-enum-told c = search needs
-
-enum-told-2 : tie.Need-enum-told-2
-enum-told-2 c = search needs
-
-enum-told-3 : tie.Need-enum-told-3
-enum-told-3 c = search needs
 
 returns-2 : tie.Need-returns-2
 returns-2 c =
     let told = c .before .enum-told3 .given .1 in
     rw told (record { within = omega arith; exact = no-exact (λ h. omega (arith, h .top refl .0)) })
-
-sub-wide : tie.Need-sub-wide
-sub-wide c = search needs
-
-shared-slice-read-wide : tie.Need-shared-slice-read-wide
-shared-slice-read-wide c = search needs
-
-wide-requires : tie.Need-wide-requires
-wide-requires c κs = search needs
-
-row-marker-requires : tie.Need-row-marker-requires
-row-marker-requires c κs = search needs
-
-enum-told-4 : tie.Need-enum-told-4
-enum-told-4 c = search needs
 
 returns-3 : tie.Need-returns-3
 returns-3 c = rw (c .enum-told .given .1) (record { within = omega arith; exact = no-exact (λ h. h .known refl) })
@@ -72,17 +45,17 @@ pub fits-spec : {M : Type 1} → statement M
 fits-spec =
     tie.close
     (tie.spec
-    row-from-requires
+    (λ c κs. search needs)
     returns
-    enum-told
-    enum-told-2
-    enum-told-3
+    (λ c. search needs)
+    (λ c. search needs)
+    (λ c. search needs)
     returns-2
-    sub-wide
-    shared-slice-read-wide
-    wide-requires
-    row-marker-requires
-    enum-told-4
+    (λ c. search needs)
+    (λ c. search needs)
+    (λ c κs. search needs)
+    (λ c κs. search needs)
+    (λ c. search needs)
     returns-3
     returns-4
     returns-5

@@ -35,32 +35,11 @@ close-state c =
     let told = c .before .before .before in
     omega (arith, suits (told .before .before .before .before) (told .goal3 .given .1), c .wide2 .ensures .0)
 
-enum-known-goal : tie.Need-enum-known-goal
-enum-known-goal c = search needs
-
-put-mark-requires : tie.Need-put-mark-requires
-put-mark-requires c κs = search needs
-
-enum-known-goal-2 : tie.Need-enum-known-goal-2
-enum-known-goal-2 c = search needs
-
-mark-number-requires : tie.Need-mark-number-requires
-mark-number-requires c κs = search needs
-
-wide-requires : tie.Need-wide-requires
-wide-requires c κs = search needs
-
 add-to : tie.Need-add-to
 add-to c = omega (arith, call-state c)
 
 cast-to : tie.Need-cast-to
 cast-to c = omega (arith, call-state c)
-
-put-row-requires : tie.Need-put-row-requires
-put-row-requires c κs = search needs
-
-enum-known-goal-3 : tie.Need-enum-known-goal-3
-enum-known-goal-3 c = search needs
 
 returns : tie.Need-returns
 returns c =
@@ -70,17 +49,11 @@ returns c =
     rw (told .goal3 .given .1)
     (gathers-as gathers-none (keys-left (marks s) (a .state) (a .stack .now) (a .out .now) _ _ _ _ (λ e. omega arith)))
 
-wide-requires-2 : tie.Need-wide-requires-2
-wide-requires-2 c κs = search needs
-
 add-to-2 : tie.Need-add-to-2
 add-to-2 c = omega (arith, close-state c)
 
 cast-to-2 : tie.Need-cast-to-2
 cast-to-2 c = omega (arith, close-state c)
-
-put-row-requires-2 : tie.Need-put-row-requires-2
-put-row-requires-2 c κs = search needs
 
 returns-2 : tie.Need-returns-2
 returns-2 c =
@@ -116,20 +89,20 @@ pub found-spec : {M : Type 1} → statement M
 found-spec =
     tie.close
     (tie.spec
-    enum-known-goal
-    put-mark-requires
-    enum-known-goal-2
-    mark-number-requires
-    wide-requires
+    (λ c. search needs)
+    (λ c κs. search needs)
+    (λ c. search needs)
+    (λ c κs. search needs)
+    (λ c κs. search needs)
     add-to
     cast-to
-    put-row-requires
-    enum-known-goal-3
+    (λ c κs. search needs)
+    (λ c. search needs)
     returns
-    wide-requires-2
+    (λ c κs. search needs)
     add-to-2
     cast-to-2
-    put-row-requires-2
+    (λ c κs. search needs)
     returns-2
     returns-3
     returns-4)

@@ -6,23 +6,8 @@ use borrow.Author.Needs.{needs}
 use Rattle.joiner.proofs.reading.height_after.Statement.{statement}
 use Rattle.joiner.proofs.reading.height_after.Tie as tie
 
-enum-told : tie.Need-enum-told
-enum-told c = search needs
-
-enum-told-2 : tie.Need-enum-told-2
-enum-told-2 c = search needs
-
-add-result : tie.Need-add-result
-add-result c = search needs
-
-enum-told-3 : tie.Need-enum-told-3
-enum-told-3 c = search needs
-
 sub-result : tie.Need-sub-result
 sub-result c = omega (arith, c .before .before .pre .1 (ap meant (c .enum-told3 .given .1)))
-
-enum-told-4 : tie.Need-enum-told-4
-enum-told-4 c = search needs
 
 returns : tie.Need-returns
 returns c = search needs
@@ -40,12 +25,12 @@ pub height-after-spec : {M : Type 1} → statement M
 height-after-spec =
     tie.close
     (tie.spec
-    enum-told
-    enum-told-2
-    add-result
-    enum-told-3
+    (λ c. search needs)
+    (λ c. search needs)
+    (λ c. search needs)
+    (λ c. search needs)
     sub-result
-    enum-told-4
+    (λ c. search needs)
     returns
     returns-2
     returns-3

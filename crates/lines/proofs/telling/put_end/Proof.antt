@@ -4,7 +4,7 @@ use native.Mathlib.Omega.{arith}
 use lib.ListN.{length, take}
 use lib.Seq.{length-take-le}
 use borrow.Author.Needs.{needs}
-use Rattle.ending.proofs.Telling.{said-finished}
+use Rattle.numbers.proofs.Told.{number-small}
 use Rattle.lines.proofs.Lined.{rest-within, ending-room}
 use Rattle.lines.proofs.telling.put_end.Statement.{statement}
 use Rattle.lines.proofs.telling.put_end.Tie as tie
@@ -13,9 +13,7 @@ slice-reshare-prefix-put-ending : tie.Need-slice-reshare-prefix-put-ending
 slice-reshare-prefix-put-ending c =
     let heard = c .before in
     let ended = heard .before .before .before in
-    rest-within _ _
-    (said-finished (ended .finish .result) (heard .said-by-finish .ensures .0) (heard .said-by-finish .ensures .1)
-    (ended .finish .ensures))
+    rest-within _ _ (ended .finish .ensures)
 
 slice-aggregate-put-ending : tie.Need-slice-aggregate-put-ending
 slice-aggregate-put-ending c = sym (length-take-le _ _ (slice-reshare-prefix-put-ending (c .before)))
@@ -25,9 +23,10 @@ put-ending-requires c κs =
     let heard = c .before .before in
     let ended = heard .before .before .before in
     let start = ended .before .before .before .before .before in
-    let rest = take (heard .said-by-finish .result .count) (ended .finish .last .1 .1 .0) in
+    let rest = take (ended .finish .result .count) (ended .finish .last .1 .1 .0) in
     let long = slice-aggregate-put-ending c in
-    ending-room _ rest (length (start .args .out .now)) (omega arith)
+    ending-room _ rest (length (start .args .out .now))
+    (omega (arith, heard .number-of .ensures, number-small (ended .finish .result .number)))
     (omega (arith, long, slice-reshare-prefix-put-ending (c .before))) _ _ (omega arith)
 
 returns : tie.Need-returns
@@ -36,11 +35,9 @@ returns c =
     let heard = put .before .before .before in
     let ended = heard .before .before .before in
     record {
-      number = heard .said-by-finish .result .number;
-      count = heard .said-by-finish .result .count;
-      finished =
-          said-finished (ended .finish .result) (heard .said-by-finish .ensures .0) (heard .said-by-finish .ensures .1)
-          (ended .finish .ensures);
+      number = heard .number-of .result;
+      count = ended .finish .result .count;
+      finished = rw (heard .number-of .ensures) (ended .finish .ensures);
       put = put .put-ending .ensures;
     }
 

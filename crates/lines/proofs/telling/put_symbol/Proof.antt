@@ -6,7 +6,7 @@ use lib.ListN.{length, take}
 use lib.Seq.{length-take-le}
 use borrow.Author.Needs.{needs}
 use borrow.Author.Tests.{eq-eqb, eqb-true}
-use Rattle.engine.proofs.Telling.{said-stepped}
+use Rattle.numbers.proofs.Told.{number-small}
 use Rattle.lines.proofs.Lined.{sent-within, line-most, line-room}
 use Rattle.lines.proofs.telling.put_symbol.Statement.{statement}
 use Rattle.lines.proofs.telling.put_symbol.Tie as tie
@@ -15,9 +15,7 @@ slice-reshare-prefix-put-line : tie.Need-slice-reshare-prefix-put-line
 slice-reshare-prefix-put-line c =
     let heard = c .before .before .before in
     let stepped = heard .before .before .before in
-    sent-within _ _
-    (said-stepped (stepped .step-in .result) (heard .said-by-step .ensures .0) (heard .said-by-step .ensures .1)
-    (stepped .step-in .ensures))
+    sent-within _ _ (stepped .step-in .ensures)
 
 slice-aggregate-put-line : tie.Need-slice-aggregate-put-line
 slice-aggregate-put-line c = sym (length-take-le _ _ (slice-reshare-prefix-put-line (c .before)))
@@ -27,9 +25,10 @@ put-line-requires c κs =
     let heard = c .before .before .before .before in
     let stepped = heard .before .before .before in
     let start = stepped .before .before .before .before .before .before .before in
-    let sent = take (heard .said-by-step .result .count) (stepped .step-in .last .1 .1 .1 .0) in
+    let sent = take (stepped .step-in .result .count) (stepped .step-in .last .1 .1 .1 .0) in
     let long = slice-aggregate-put-line c in
-    line-room _ _ _ _ sent (length (start .args .out .now)) (omega arith) (omega arith) (omega arith) (omega arith)
+    line-room _ _ _ _ sent (length (start .args .out .now)) (omega arith) (omega arith)
+    (omega (arith, heard .number-of .ensures, number-small (stepped .step-in .result .number))) (omega arith)
     (omega (arith, long, slice-reshare-prefix-put-line (c .before))) _ _ (omega arith)
 
 returns : tie.Need-returns
@@ -39,21 +38,20 @@ returns c =
     let stepped = heard .before .before .before in
     let start = stepped .before .before .before .before .before .before .before in
     let args = start .args in
-    let sent = take (heard .said-by-step .result .count) (stepped .step-in .last .1 .1 .1 .0) in
+    let sent = take (stepped .step-in .result .count) (stepped .step-in .last .1 .1 .1 .0) in
     let long = slice-aggregate-put-line (put .before) in
     let depth = put .before .before .before .depth .result in
     let few : length sent ≤ length (args .out .now)
     = omega (arith, long, slice-reshare-prefix-put-line (put .before .before)) in
     let most =
-    line-most (args .place) (args .symbol) (heard .said-by-step .result .number) depth sent (length (args .out .now))
-    (omega arith) (omega arith) (omega arith) (omega arith) few
+    line-most (args .place) (args .symbol) (heard .number-of .result) depth sent (length (args .out .now)) (omega arith)
+    (omega arith) (omega (arith, heard .number-of .ensures, number-small (stepped .step-in .result .number)))
+    (omega arith) few
     in
     record {
-      number = heard .said-by-step .result .number;
-      count = heard .said-by-step .result .count;
-      stepped =
-          said-stepped (stepped .step-in .result) (heard .said-by-step .ensures .0) (heard .said-by-step .ensures .1)
-          (stepped .step-in .ensures);
+      number = heard .number-of .result;
+      count = stepped .step-in .result .count;
+      stepped = rw (heard .number-of .ensures) (stepped .step-in .ensures);
       taken = (λ e. eq-eqb _ _ e, λ e. eqb-true _ _ e);
       short = omega (arith, put .put-line .ensures .next, most);
       put = rw (put .before .before .before .depth .ensures) at (put .put-line .ensures);

@@ -20,19 +20,10 @@ count-requires c κs = c .before .before .pre .whole
 loop-holds : tie.Need-loop-holds Inv-loop μ-loop
 loop-holds c = (omega arith, omega arith, found-start _)
 
-add-all : tie.Need-add-all Inv-loop μ-loop
-add-all c = search needs
-
-cast-all : tie.Need-cast-all Inv-loop μ-loop
-cast-all c = search needs
-
 level-requires : tie.Need-level-requires Inv-loop μ-loop
 level-requires c κs =
     let graded = c .before .before .before .before .before .before .pre in
     (graded .whole, omega (arith, graded .few))
-
-add-all-2 : tie.Need-add-all-2 Inv-loop μ-loop
-add-all-2 c = search needs
 
 -- the level has a place
 room : (c : tie.After-level Inv-loop μ-loop) → c .level .result + 1 ≤ 34
@@ -43,12 +34,6 @@ room c =
 
 slice-write-all : tie.Need-slice-write-all Inv-loop μ-loop
 slice-write-all c = omega (arith, room c, c .before .before .loop .inv .2 .long)
-
-add-i : tie.Need-add-i Inv-loop μ-loop
-add-i c = search needs
-
-loop-less : tie.Need-loop-less Inv-loop μ-loop
-loop-less c = search needs
 
 loop-again : tie.Need-loop-again Inv-loop μ-loop
 loop-again c =
@@ -77,12 +62,12 @@ find-spec =
     μ-loop
     count-requires
     loop-holds
-    add-all
-    cast-all
+    (λ c. search needs)
+    (λ c. search needs)
     level-requires
-    add-all-2
+    (λ c. search needs)
     slice-write-all
-    add-i
-    loop-less
+    (λ c. search needs)
+    (λ c. search needs)
     loop-again
     returns)

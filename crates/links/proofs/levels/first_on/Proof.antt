@@ -17,15 +17,6 @@ Inv-loop bytes starts below at end i₀ i =
 abbrev μ-loop : tie.MeasureT-loop
 μ-loop bytes starts below at end i₀ i = end - i
 
-add-start : tie.Need-add-start Inv-loop μ-loop
-add-start c = search needs
-
-start-requires : tie.Need-start-requires Inv-loop μ-loop
-start-requires c κs = search needs
-
-start-requires-2 : tie.Need-start-requires-2 Inv-loop μ-loop
-start-requires-2 c κs = search needs
-
 loop-holds : tie.Need-loop-holds Inv-loop μ-loop
 loop-holds c =
     let at-start = c .before .before .before in
@@ -46,12 +37,6 @@ returns : tie.Need-returns Inv-loop μ-loop
 returns c =
     let inv = c .before .before .before .loop .inv in
     record { within = omega arith; before = inv .3; found = λ l. omega arith }
-
-add-i : tie.Need-add-i Inv-loop μ-loop
-add-i c = search needs
-
-loop-less : tie.Need-loop-less Inv-loop μ-loop
-loop-less c = search needs
 
 loop-again : tie.Need-loop-again Inv-loop μ-loop
 loop-again c =
@@ -78,14 +63,14 @@ first-on-spec =
     (tie.spec
     Inv-loop
     μ-loop
-    add-start
-    start-requires
-    start-requires-2
+    (λ c. search needs)
+    (λ c κs. search needs)
+    (λ c κs. search needs)
     loop-holds
     foot-requires
     returns
-    add-i
-    loop-less
+    (λ c. search needs)
+    (λ c. search needs)
     loop-again
     count-requires
     returns-2)

@@ -21,16 +21,10 @@ count-requires c κs = c .before .pre .0 .graded .whole
 loop-holds : tie.Need-loop-holds Inv-loop μ-loop
 loop-holds c = (omega arith, weighed-none _ _ _ (omega arith))
 
-sub-i : tie.Need-sub-i Inv-loop μ-loop
-sub-i c = search needs
-
 weigh-requires : tie.Need-weigh-requires Inv-loop μ-loop
 weigh-requires c κs =
     let at-loop = c .before .before in
     (at-loop .before .before .before .pre, (omega arith, weighed-on (at-loop .loop .inv .1) (omega arith)))
-
-loop-less : tie.Need-loop-less Inv-loop μ-loop
-loop-less c = search needs
 
 loop-again : tie.Need-loop-again Inv-loop μ-loop
 loop-again c = (omega arith, c .weigh .ensures)
@@ -53,9 +47,9 @@ longest-spec =
     μ-loop
     count-requires
     loop-holds
-    sub-i
+    (λ c. search needs)
     weigh-requires
-    loop-less
+    (λ c. search needs)
     loop-again
     most-on-requires
     returns)

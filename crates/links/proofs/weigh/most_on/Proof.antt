@@ -22,9 +22,6 @@ Inv-loop bytes starts loads below level end most₀ j₀ most j =
 abbrev μ-loop : tie.MeasureT-loop
 μ-loop bytes starts loads below level end most₀ j₀ most j = end - j
 
-add-start : tie.Need-add-start Inv-loop μ-loop
-add-start c = search needs
-
 start-requires : tie.Need-start-requires Inv-loop μ-loop
 start-requires c κs = omega (arith, c .before .pre .0 .1)
 
@@ -46,24 +43,6 @@ loop-holds c =
 
 foot-requires : tie.Need-foot-requires Inv-loop μ-loop
 foot-requires c κs = (c .before .before .before .before .before .pre .0 .0 .graded .whole, omega arith)
-
-mul-load : tie.Need-mul-load Inv-loop μ-loop
-mul-load c = search needs
-
-element-copy-out-load : tie.Need-element-copy-out-load Inv-loop μ-loop
-element-copy-out-load c = search needs
-
-load-requires : tie.Need-load-requires Inv-loop μ-loop
-load-requires c κs = search needs
-
-larger-requires : tie.Need-larger-requires Inv-loop μ-loop
-larger-requires c κs = search needs
-
-add-j : tie.Need-add-j Inv-loop μ-loop
-add-j c = search needs
-
-loop-less : tie.Need-loop-less Inv-loop μ-loop
-loop-less c = search needs
 
 loop-again : tie.Need-loop-again Inv-loop μ-loop
 loop-again c =
@@ -90,16 +69,16 @@ most-on-spec =
     (tie.spec
     Inv-loop
     μ-loop
-    add-start
+    (λ c. search needs)
     start-requires
     start-requires-2
     loop-holds
     foot-requires
-    mul-load
-    element-copy-out-load
-    load-requires
-    larger-requires
-    add-j
-    loop-less
+    (λ c. search needs)
+    (λ c. search needs)
+    (λ c κs. search needs)
+    (λ c κs. search needs)
+    (λ c. search needs)
+    (λ c. search needs)
     loop-again
     returns)

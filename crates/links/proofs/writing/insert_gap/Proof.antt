@@ -17,14 +17,8 @@ abbrev μ-loop : tie.MeasureT-loop
 loop-holds : tie.Need-loop-holds Inv-loop μ-loop
 loop-holds c = (omega arith, omega arith, gapped-none _ _)
 
-sub-i : tie.Need-sub-i Inv-loop μ-loop
-sub-i c = search needs
-
 move-up-requires : tie.Need-move-up-requires Inv-loop μ-loop
 move-up-requires c κs = (omega (arith, c .before .before .loop .inv .2 .whole), omega arith)
-
-loop-less : tie.Need-loop-less Inv-loop μ-loop
-loop-less c = search needs
 
 loop-again : tie.Need-loop-again Inv-loop μ-loop
 loop-again c =
@@ -52,9 +46,9 @@ insert-gap-spec =
     Inv-loop
     μ-loop
     loop-holds
-    sub-i
+    (λ c. search needs)
     move-up-requires
-    loop-less
+    (λ c. search needs)
     loop-again
     same-length
     returns)

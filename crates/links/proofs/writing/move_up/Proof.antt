@@ -6,20 +6,8 @@ use Rattle.links.proofs.Linked.{linked, gapped-one}
 use Rattle.links.proofs.writing.move_up.Statement.{statement}
 use Rattle.links.proofs.writing.move_up.Tie as tie
 
-read-requires : tie.Need-read-requires
-read-requires c κs = search needs
-
-long-requires : tie.Need-long-requires
-long-requires c κs = search needs
-
-add-put : tie.Need-add-put
-add-put c = search needs
-
 put-requires : tie.Need-put-requires
 put-requires c κs = (omega arith, omega arith, c .before .long .ensures .1)
-
-same-length : tie.Need-same-length
-same-length c = search needs
 
 returns : tie.Need-returns
 returns c =
@@ -32,4 +20,4 @@ returns c =
 
 pub move-up-spec : {M : Type 1} → statement M
 move-up-spec =
-    tie.close (tie.spec read-requires long-requires add-put put-requires same-length returns)
+    tie.close (tie.spec (λ c κs. search needs) (λ c κs. search needs) (λ c. search needs) put-requires (λ c. search needs) returns)

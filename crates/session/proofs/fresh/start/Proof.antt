@@ -13,17 +13,8 @@ Inv-loop session₀ set rest₀ i₀ session rest i = Starting set i rest sessio
 abbrev μ-loop : tie.MeasureT-loop
 μ-loop session₀ set rest₀ i₀ session rest i = rest
 
-clear-requires : tie.Need-clear-requires Inv-loop μ-loop
-clear-requires c κs = search needs
-
 loop-holds : tie.Need-loop-holds Inv-loop μ-loop
 loop-holds c = starting-none _ (c .clear .ensures)
-
-lowest-requires : tie.Need-lowest-requires Inv-loop μ-loop
-lowest-requires c κs = search needs
-
-without-lowest-requires : tie.Need-without-lowest-requires Inv-loop μ-loop
-without-lowest-requires c κs = search needs
 
 -- the state that is next, and that a link has room
 next : (c : tie.After-without-lowest Inv-loop μ-loop)
@@ -46,9 +37,6 @@ add-start-requires c κs = omega (arith, room (c .before))
 add-i : tie.Need-add-i Inv-loop μ-loop
 add-i c = omega (arith, room (c .before .before))
 
-loop-less : tie.Need-loop-less Inv-loop μ-loop
-loop-less c = search needs
-
 loop-again : tie.Need-loop-again Inv-loop μ-loop
 loop-again c =
     let removed = c .before .before in
@@ -63,13 +51,13 @@ start-spec =
     (tie.spec
     Inv-loop
     μ-loop
-    clear-requires
+    (λ c κs. search needs)
     loop-holds
-    lowest-requires
-    without-lowest-requires
+    (λ c κs. search needs)
+    (λ c κs. search needs)
     cast-add-start
     add-start-requires
     add-i
-    loop-less
+    (λ c. search needs)
     loop-again
     returns)

@@ -23,9 +23,6 @@ Inv-loop session starts foot level end first₀ j₀ first j =
 abbrev μ-loop : tie.MeasureT-loop
 μ-loop session starts foot level end first₀ j₀ first j = end - j
 
-add-start : tie.Need-add-start Inv-loop μ-loop
-add-start c = search needs
-
 start-requires : tie.Need-start-requires Inv-loop μ-loop
 start-requires c κs = omega (arith, c .before .pre .2)
 
@@ -46,24 +43,12 @@ loop-holds c =
 foot-requires : tie.Need-foot-requires Inv-loop μ-loop
 foot-requires c κs = (c .before .before .before .before .before .pre .1 .graded .whole, omega arith)
 
-head-requires : tie.Need-head-requires Inv-loop μ-loop
-head-requires c κs = search needs
-
-agrees-requires : tie.Need-agrees-requires Inv-loop μ-loop
-agrees-requires c κs = search needs
-
 returns : tie.Need-returns Inv-loop μ-loop
 returns c =
     let at-loop = c .before .before .before .before .before .before in
     yes-exact
     (heads-apart (at-loop .loop .inv .3) _ (c .before .before .head .ensures) (omega arith) (omega arith)
     (denied (c .before .agrees .ensures) (c .if2 .taken)))
-
-add-j : tie.Need-add-j Inv-loop μ-loop
-add-j c = search needs
-
-loop-less : tie.Need-loop-less Inv-loop μ-loop
-loop-less c = search needs
 
 loop-again : tie.Need-loop-again Inv-loop μ-loop
 loop-again c =
@@ -91,15 +76,15 @@ apart-spec =
     (tie.spec
     Inv-loop
     μ-loop
-    add-start
+    (λ c. search needs)
     start-requires
     start-requires-2
     loop-holds
     foot-requires
-    head-requires
-    agrees-requires
+    (λ c κs. search needs)
+    (λ c κs. search needs)
     returns
-    add-j
-    loop-less
+    (λ c. search needs)
+    (λ c. search needs)
     loop-again
     returns-2)

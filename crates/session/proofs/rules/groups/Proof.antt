@@ -41,12 +41,6 @@ carries-requires c κs = (c .before .before .before .before .before .before .bef
 returns-3 : tie.Need-returns-3 Inv-loop μ-loop
 returns-3 c = no-exact (λ h. denied (c .before .carries .ensures) (c .if3 .taken) (h .carries _ (omega arith)))
 
-add-i : tie.Need-add-i Inv-loop μ-loop
-add-i c = search needs
-
-loop-less : tie.Need-loop-less Inv-loop μ-loop
-loop-less c = search needs
-
 loop-again : tie.Need-loop-again Inv-loop μ-loop
 loop-again c =
     let after-rooted = c .before .before in
@@ -81,7 +75,7 @@ groups-spec =
     returns-2
     carries-requires
     returns-3
-    add-i
-    loop-less
+    (λ c. search needs)
+    (λ c. search needs)
     loop-again
     returns-4)

@@ -6,41 +6,17 @@ use Rattle.words.proofs.Exact.{yes-exact, no-exact, denied, granted}
 use Rattle.session.proofs.rules.link_fits.Statement.{statement}
 use Rattle.session.proofs.rules.link_fits.Tie as tie
 
-level-requires : tie.Need-level-requires
-level-requires c κs = search needs
-
-depth-requires : tie.Need-depth-requires
-depth-requires c κs = search needs
-
 returns : tie.Need-returns
 returns c = no-exact (λ h. omega arith)
-
-states-requires : tie.Need-states-requires
-states-requires c κs = search needs
-
-state-requires : tie.Need-state-requires
-state-requires c κs = search needs
 
 returns-2 : tie.Need-returns-2
 returns-2 c = no-exact (λ h. omega arith)
 
-marker-requires : tie.Need-marker-requires
-marker-requires c κs = search needs
-
-markers-requires : tie.Need-markers-requires
-markers-requires c κs = search needs
-
 returns-3 : tie.Need-returns-3
 returns-3 c = no-exact (λ h. omega arith)
 
-long-requires : tie.Need-long-requires
-long-requires c κs = search needs
-
 returns-4 : tie.Need-returns-4
 returns-4 c = no-exact (λ h. omega arith)
-
-mark-fits-requires : tie.Need-mark-fits-requires
-mark-fits-requires c κs = search needs
 
 returns-5 : tie.Need-returns-5
 returns-5 c =
@@ -65,9 +41,6 @@ returns-6 c =
       short = omega arith;
     })
 
-foot-requires : tie.Need-foot-requires
-foot-requires c κs = search needs
-
 returns-7 : tie.Need-returns-7
 returns-7 c =
     let z = granted (c .before .before .before .mark-fits .ensures) (c .before .before .if5 .left) in (
@@ -90,19 +63,19 @@ pub link-fits-spec : {M : Type 1} → statement M
 link-fits-spec =
     tie.close
     (tie.spec
-    level-requires
-    depth-requires
+    (λ c κs. search needs)
+    (λ c κs. search needs)
     returns
-    states-requires
-    state-requires
+    (λ c κs. search needs)
+    (λ c κs. search needs)
     returns-2
-    marker-requires
-    markers-requires
+    (λ c κs. search needs)
+    (λ c κs. search needs)
     returns-3
-    long-requires
+    (λ c κs. search needs)
     returns-4
-    mark-fits-requires
+    (λ c κs. search needs)
     returns-5
     returns-6
-    foot-requires
+    (λ c κs. search needs)
     returns-7)

@@ -16,34 +16,16 @@ Inv-loop file session n least₀ i₀ least i = (n ≡ countOf session) × Risen
 abbrev μ-loop : tie.MeasureT-loop
 μ-loop file session n least₀ i₀ least i = n - i
 
-count-requires : tie.Need-count-requires Inv-loop μ-loop
-count-requires c κs = search needs
-
 loop-holds : tie.Need-loop-holds Inv-loop μ-loop
 loop-holds c = (omega arith, risen-start _ _)
 
-link-fits-requires : tie.Need-link-fits-requires Inv-loop μ-loop
-link-fits-requires c κs = search needs
-
 returns : tie.Need-returns Inv-loop μ-loop
 returns c = no-exact (λ h. denied (c .before .link-fits .ensures) (c .if1 .taken) (h .fit _ (omega arith)))
-
-key-requires : tie.Need-key-requires Inv-loop μ-loop
-key-requires c κs = search needs
 
 returns-2 : tie.Need-returns-2 Inv-loop μ-loop
 returns-2 c =
     let at-loop = c .before .before .before .before .before in
     no-exact (risen-not (at-loop .loop .inv .1) (omega arith) _ (c .before .key .ensures .0) (omega arith))
-
-add-least : tie.Need-add-least Inv-loop μ-loop
-add-least c = search needs
-
-add-i : tie.Need-add-i Inv-loop μ-loop
-add-i c = search needs
-
-loop-less : tie.Need-loop-less Inv-loop μ-loop
-loop-less c = search needs
 
 loop-again : tie.Need-loop-again Inv-loop μ-loop
 loop-again c =
@@ -61,14 +43,14 @@ links-spec =
     (tie.spec
     Inv-loop
     μ-loop
-    count-requires
+    (λ c κs. search needs)
     loop-holds
-    link-fits-requires
+    (λ c κs. search needs)
     returns
-    key-requires
+    (λ c κs. search needs)
     returns-2
-    add-least
-    add-i
-    loop-less
+    (λ c. search needs)
+    (λ c. search needs)
+    (λ c. search needs)
     loop-again
     returns-3)

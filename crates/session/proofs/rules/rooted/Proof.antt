@@ -9,9 +9,6 @@ use Rattle.links.proofs.Levelled.{foot-level, over-bottom, first-found}
 use Rattle.session.proofs.rules.rooted.Statement.{statement}
 use Rattle.session.proofs.rules.rooted.Tie as tie
 
-foot-requires : tie.Need-foot-requires
-foot-requires c κs = search needs
-
 returns : tie.Need-returns
 returns c = yes-exact (inl (omega arith))
 
@@ -23,9 +20,6 @@ first-with-requires c κs =
     let over = over-bottom levels _ (pre .1) (λ e. c .if1 .left (is ∙ e)) in
     let level = ap levelOf is ∙ foot-level _ (levels .small) _ in
     (levels, omega (arith, level, over), omega (arith, level, levels .graded .low _ (pre .1)))
-
-count-requires : tie.Need-count-requires
-count-requires c κs = search needs
 
 returns-2 : tie.Need-returns-2
 returns-2 c =
@@ -42,4 +36,4 @@ returns-2 c =
 
 pub rooted-spec : {M : Type 1} → statement M
 rooted-spec =
-    tie.close (tie.spec foot-requires returns first-with-requires count-requires returns-2)
+    tie.close (tie.spec (λ c κs. search needs) returns first-with-requires (λ c κs. search needs) returns-2)

@@ -1,22 +1,22 @@
--- `checking::check` meets its contract: a file is taken when each part grants it, in file order. Assumes nothing.
+-- `checking::judge` meets its contract: a file is taken when each part grants it, in file order. Assumes nothing.
 use native.Mathlib.Omega.{arith}
 use Rattle.words.proofs.Exact.{denied, granted}
-use Rattle.checking.proofs.Told.{told-taken, told-bad}
+use Rattle.table.proofs.Told.{judged-good, judged-bad}
 use borrow.Author.Needs.{needs}
-use Rattle.checking.proofs.check.Statement.{statement}
-use Rattle.checking.proofs.check.Tie as tie
+use Rattle.checking.proofs.judge.Statement.{statement}
+use Rattle.checking.proofs.judge.Tie as tie
 
 returns : tie.Need-returns
-returns c = told-bad _ (λ g. denied (c .before .head .ensures) (c .if1 .taken) (g .head))
+returns c = judged-bad (λ g. denied (c .before .head .ensures) (c .if1 .taken) (g .head))
 
 returns-2 : tie.Need-returns-2
-returns-2 c = told-bad _ (λ g. denied (c .before .contents .ensures) (c .if2 .taken) (g .contents))
+returns-2 c = judged-bad (λ g. denied (c .before .contents .ensures) (c .if2 .taken) (g .contents))
 
 classes-requires : tie.Need-classes-requires
 classes-requires c κs = let k = granted (c .before .contents .ensures) (c .if2 .left) in omega arith
 
 returns-3 : tie.Need-returns-3
-returns-3 c = told-bad _ (λ g. denied (c .before .classes .ensures) (c .if3 .taken) (g .classes))
+returns-3 c = judged-bad (λ g. denied (c .before .classes .ensures) (c .if3 .taken) (g .classes))
 
 sets-requires : tie.Need-sets-requires
 sets-requires c κs =
@@ -24,7 +24,7 @@ sets-requires c κs =
     let k = granted (after-contents .before .contents .ensures) (after-contents .if2 .left) in omega arith
 
 returns-4 : tie.Need-returns-4
-returns-4 c = told-bad _ (λ g. denied (c .before .sets .ensures) (c .if4 .taken) (g .sets))
+returns-4 c = judged-bad (λ g. denied (c .before .sets .ensures) (c .if4 .taken) (g .sets))
 
 rows-requires : tie.Need-rows-requires
 rows-requires c κs =
@@ -32,7 +32,7 @@ rows-requires c κs =
     granted (after-contents .before .contents .ensures) (after-contents .if2 .left)
 
 returns-5 : tie.Need-returns-5
-returns-5 c = told-bad _ (λ g. denied (c .before .rows .ensures) (c .if5 .taken) (g .rows))
+returns-5 c = judged-bad (λ g. denied (c .before .rows .ensures) (c .if5 .taken) (g .rows))
 
 returns-6 : tie.Need-returns-6
 returns-6 c =
@@ -40,7 +40,7 @@ returns-6 c =
     let after-classes = after-sets .before .before in
     let after-contents = after-classes .before .before in
     let after-head = after-contents .before .before in
-    told-taken _
+    judged-good
     (record {
       head = granted (after-head .before .head .ensures) (after-head .if1 .left);
       contents = granted (after-contents .before .contents .ensures) (after-contents .if2 .left);
@@ -49,8 +49,8 @@ returns-6 c =
       rows = granted (c .before .rows .ensures) (c .if5 .left);
     })
 
-pub check-spec : {M : Type 1} → statement M
-check-spec =
+pub judge-spec : {M : Type 1} → statement M
+judge-spec =
     tie.close
     (tie.spec
     (λ c κs. search needs)

@@ -1,4 +1,4 @@
--- `ending::sending::send` meets its contract. Assumes nothing.
+-- `words::writing::send` meets its contract. Assumes nothing.
 use mathlib.Core.Path.{_≡_, _∙_}
 use mathlib.Core.List.{List, _++_}
 use Prim.Native.Nat.{ℕ}
@@ -6,14 +6,8 @@ use native.Mathlib.Nat.{zero-add}
 use lib.ListN.{length, drop}
 use lib.Seq.{paste, take-length}
 use borrow.Author.Needs.{needs}
-use Rattle.ending.proofs.sending.send.Statement.{statement}
-use Rattle.ending.proofs.sending.send.Tie as tie
-
-copy-requires : tie.Need-copy-requires
-copy-requires c κs = search needs
-
-same-length : tie.Need-same-length
-same-length c = search needs
+use Rattle.words.proofs.writing.send.Statement.{statement}
+use Rattle.words.proofs.writing.send.Tie as tie
 
 front : (out part : List ℕ) → paste out 0 part (length part) ≡ part ++ drop (length part) out
 front out part = rw (zero-add, take-length part)
@@ -24,4 +18,4 @@ returns c =
     c .before .before .copy .ensures ∙ front (args .out .now) (args .part .now)
 
 pub send-spec : {M : Type 1} → statement M
-send-spec = tie.close (tie.spec copy-requires same-length returns)
+send-spec = tie.close (tie.spec (λ c κs. search needs) (λ c. search needs) returns)

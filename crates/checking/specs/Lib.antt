@@ -1,2 +1,0 @@
--- What the call `check` promises.
-pub mod Calls
