@@ -2,3 +2,4 @@
 pub mod Weighed
 pub mod Levelled
 pub mod Linked
+pub mod Told

@@ -1,10 +1,10 @@
 -- What writing links and lengths leaves, byte by byte, and what is then read. Assumes nothing.
-use mathlib.Core.Path.{_≡_, refl, sym, _∙_, ap}
+use mathlib.Core.Path.{_≡_, refl, sym, _∙_}
 use mathlib.Core.Logic.{_⊎_, inl, inr, ⊎-elim}
 use mathlib.Core.Bool.{Bool, true, false, cond}
 use mathlib.Core.Option.{some, none}
 use mathlib.Core.List.{List, [], _∷_}
-use Prim.Native.Nat.{ℕ, zero, suc, _+_, _*_, _/_, _%_, _<_, _≤_}
+use Prim.Native.Nat.{ℕ, zero, suc, _+_, _/_, _%_, _<_, _≤_}
 use native.Mathlib.Nat.{add-zero}
 use native.Mathlib.Numerals.{add-one, add-two, add-three, add-four}
 use native.Mathlib.Omega.{arith}
@@ -18,9 +18,9 @@ use Rattle.words.proofs.Pasted.{Pasted, pasted, stored}
 use Rattle.table.specs.File.{byte}
 use Rattle.standing.specs.Bytes.{linkStart, lengthStart, pair, lengthAt, belowFrom, linkFrom, linkAt}
 use Rattle.standing.specs.Bytes.{NoneBelow, belowBytes, linkBytes}
-use Rattle.standing.specs.Numbers.{headSize, pairs, keyAt}
+use Rattle.standing.specs.Numbers.{headSize, keyAt}
 use Rattle.links.specs.declared.Link.{Link}
-use Rattle.links.specs.Heads.{fiveOf, keyOf, meant, Read, withLength, withLink, Gapped}
+use Rattle.links.specs.Heads.{fiveOf, keyOf, meant, Read, withLink, Gapped}
 
 -- a link is known by its five bytes, a length by its two
 pub link-same : (a b : List ℕ) (p q : ℕ) → ((j : ℕ) → j < 5 → byte a (p + j) ≡ byte b (q + j))

@@ -8,11 +8,9 @@ use mathlib.Core.List.{List, [], _∷_}
 use Prim.Native.Nat.{ℕ, _+_, _*_, _/_, _%_, _<_, _≤_}
 use lib.Dec.{eqb}
 use lib.ListN.{length, set}
-use lib.Seq.{paste}
-use Rattle.words.specs.Lists.{Exact}
 use Rattle.meaning.specs.Trails as trails
 use Rattle.table.specs.File.{byte}
-use Rattle.standing.specs.Bytes.{linkStart, lengthStart, pair, countOf, lengthAt}
+use Rattle.standing.specs.Bytes.{linkStart, lengthStart, pair}
 use Rattle.standing.specs.Numbers.{headSize, keyAt, linksEnd, lengthsEnd, Clear}
 use Rattle.words.specs.declared.byte_order.Order.{Order}
 use Rattle.words.specs.declared.byte_order.Order.the-variants.{Before, Same, After}

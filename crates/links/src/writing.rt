@@ -1,9 +1,9 @@
 // Writing a head: each function leaves all bytes but those that it names as they were.
-use crate::Link;
 use crate::LENGTHS;
 use crate::LINKS;
-use crate::read;
+use crate::Link;
 use crate::long;
+use crate::read;
 ghost use mathlib.Core.Path.{_≡_};
 ghost use Prim.Native.Nat.{_+_, _≤_, _<_};
 ghost use lib.ListN.{length, set};

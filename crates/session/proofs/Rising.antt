@@ -5,8 +5,7 @@ use mathlib.Core.List.{List, map, map-map}
 use Prim.Native.Nat.{ℕ, _+_, _<_, _≤_}
 use native.Mathlib.Omega.{arith}
 use lib.ListN.{length}
-use Rattle.words.specs.Lists.{_among_, upTo}
-use Rattle.words.specs.Words.{Bytes}
+use Rattle.words.specs.Lists.{upTo}
 use Rattle.words.proofs.Lists.{map-same, getD-byte, upTo-out}
 use Rattle.meaning.specs.Table.{Table}
 use Rattle.table.specs.File.{byte, tableOf}

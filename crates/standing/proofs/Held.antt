@@ -1,29 +1,33 @@
 -- What is held at the places of links and pieces: written there, kept beside it, and all together. Assumes nothing.
-use mathlib.Core.Path.{_≡_, refl, sym, _∙_, ap}
+use mathlib.Core.Path.{_≡_, refl, sym, _∙_}
 use mathlib.Core.Logic.{_⊎_, inl, inr, ⊎-elim}
-use mathlib.Core.Bool.{Bool, true, false, cond}
-use mathlib.Core.Option.{some, none}
 use mathlib.Core.List.{List, [], _∷_}
 use Prim.Native.Nat.{ℕ, zero, suc, _+_, _-_, _*_, _/_, _%_, _<_, _≤_}
 use native.Mathlib.Omega.{arith}
-use native.Mathlib.Nat.{add-zero, mul-suc, mul-le-mul-left}
-use native.Mathlib.Numerals.{add-one}
-use borrow.Author.Tests.{lt-ltb, le-ltb, eqb-true}
-use lib.Dec.{eqb}
-use lib.ListN.{length, replicate, getD, set, take, drop, length-replicate, length-drop, List·getD-eq-default}
-use lib.Seq.{ext-getD, getD-drop, sets-eq, paste}
+use native.Mathlib.Nat.{mul-suc, mul-le-mul-left}
+use borrow.Author.Tests.{lt-ltb, le-ltb}
+use lib.ListN.{length, getD}
+use lib.Seq.{ext-getD}
 use Rattle.words.specs.Words.{Word}
 use Rattle.words.proofs.Lists.{below-or}
-use Rattle.words.proofs.Pasted.{Pasted, pasted}
 use Rattle.meaning.specs.Answers.{linksCap}
 use Rattle.table.specs.File.{byte}
 use Rattle.standing.specs.Sessions.{Session}
 use Rattle.standing.specs.Bytes.{linkStart, lengthStart, pieceStart, pieceRoom, size, countOf, lengthAt, Kept}
-use Rattle.standing.specs.Bytes.{belowFrom, linkFrom, NoneBelow, noEntry, entryOf, belowBytes, linkBytes}
-use Rattle.standing.specs.Bytes.{lengthBytes, byteOf, bytesOf}
-use Rattle.standing.specs.Numbers.{pieceEnd, Tidy, Ready, Holds, Same, Outside, Put}
+use Rattle.standing.specs.Bytes.{noEntry, entryOf, linkBytes}
+use Rattle.standing.specs.Bytes.{byteOf, bytesOf}
+use Rattle.standing.specs.Numbers.{Tidy, Holds, Same, Outside, Put}
 use Rattle.standing.proofs.Encoded.{byte-of, whole-of, getD-zeros}
 use Rattle.standing.proofs.Clear.{unused-behind}
+
+-- a place is between two others or outside them
+pub within : (s t k : ℕ) → ((s ≤ k) × (k < t)) ⊎ ((k < s) ⊎ (t ≤ k))
+within s t k = go (below-or k s) (below-or k t)
+  where
+    go : (k < s) ⊎ (s ≤ k) → (k < t) ⊎ (t ≤ k) → ((s ≤ k) × (k < t)) ⊎ ((k < s) ⊎ (t ≤ k))
+    go (inl l) o = inr (inl l)
+    go (inr g) (inl l) = inl (g, l)
+    go (inr g) (inr h) = inr (inr h)
 
 module _ {a e : List ℕ} {i : ℕ} {five : List ℕ} {word : Word} (p : Put a i five word e) (range : i < linksCap) where
   -- all other links and pieces are the same
@@ -53,33 +57,30 @@ module _ {a e : List ℕ} {i : ℕ} {five : List ℕ} {word : Word} (p : Put a i
   pub put-unique : {e′ : List ℕ} → Put a i five word e′ → e ≡ e′
   put-unique {e′} q = ext-getD 0 e e′ (p .whole ∙ sym (q .whole)) (λ k lt. at k)
     where
-      -- a place among those of a thing, or outside them
-      within : (s w k : ℕ) → ((j : ℕ) × (j < w) × (s + j ≡ k)) ⊎ ((k < s) ⊎ (s + w ≤ k))
-      within s w k = go (below-or k s) (below-or k (s + w))
-        where
-          go : (k < s) ⊎ (s ≤ k) → (k < s + w) ⊎ (s + w ≤ k)
-              → ((j : ℕ) × (j < w) × (s + j ≡ k)) ⊎ ((k < s) ⊎ (s + w ≤ k))
-          go (inl l) o = inr (inl l)
-          go (inr g) (inl l) = inl (k - s, omega arith, omega arith)
-          go (inr g) (inr h) = inr (inr h)
+      Here : ℕ → ℕ → ℕ → Type 0
+      Here s t k = ((s ≤ k) × (k < t)) ⊎ ((k < s) ⊎ (t ≤ k))
 
       at : (k : ℕ) → byte e k ≡ byte e′ k
-      at k = go (within (linkStart i) 5 k) (within (lengthStart i) 2 k) (within (pieceStart i) pieceRoom k)
+      at k =
+          go (within (linkStart i) (linkStart (i + 1)) k) (within (lengthStart i) (lengthStart (i + 1)) k)
+          (within (pieceStart i) (pieceStart (i + 1)) k)
         where
-          go : ((j : ℕ) × (j < 5) × (linkStart i + j ≡ k)) ⊎ ((k < linkStart i) ⊎ (linkStart i + 5 ≤ k))
-              → ((j : ℕ) × (j < 2) × (lengthStart i + j ≡ k)) ⊎ ((k < lengthStart i) ⊎ (lengthStart i + 2 ≤ k))
-              → ((j : ℕ) × (j < pieceRoom) × (pieceStart i + j ≡ k))
-              ⊎ ((k < pieceStart i) ⊎ (pieceStart i + pieceRoom ≤ k)) → byte e k ≡ byte e′ k
-          go (inl (j, l, f)) b c = rw (← f) (p .here .link j l ∙ sym (q .here .link j l))
-          go (inr a) (inl (j, l, f)) c = rw (← f) (p .here .long j l ∙ sym (q .here .long j l))
-          go (inr a) (inr b) (inl (j, l, f)) = rw (← f) (p .here .piece j l ∙ sym (q .here .piece j l))
+          same : (s j : ℕ) → s + j ≡ k → byte e (s + j) ≡ byte e′ (s + j) → byte e k ≡ byte e′ k
+          same s j f h = rw f at h
+
+          go : Here (linkStart i) (linkStart (i + 1)) k → Here (lengthStart i) (lengthStart (i + 1)) k
+              → Here (pieceStart i) (pieceStart (i + 1)) k → byte e k ≡ byte e′ k
+          go (inl (x, y)) b c =
+              let j = k - linkStart i in
+              same (linkStart i) j (omega arith) (p .here .link j (omega arith) ∙ sym (q .here .link j (omega arith)))
+          go (inr a) (inl (x, y)) c =
+              let j = k - lengthStart i in
+              same (lengthStart i) j (omega arith) (p .here .long j (omega arith) ∙ sym (q .here .long j (omega arith)))
+          go (inr a) (inr b) (inl (x, y)) =
+              let j = k - pieceStart i in
+              same (pieceStart i) j (omega arith) (p .here .piece j (omega arith) ∙ sym (q .here .piece j (omega arith)))
           go (inr a) (inr b) (inr c) =
-              let o : Outside i k =
-              record {
-                link = ⊎-elim inl (λ h. inr (omega arith)) a;
-                long = ⊎-elim inl (λ h. inr (omega arith)) b;
-                piece = ⊎-elim inl (λ h. inr (omega arith)) c;
-              } in
+              let o : Outside i k = record { link = a; long = b; piece = c } in
               p .others k o ∙ sym (q .others k o)
 
 -- what is the same is held as it was, and is as tidy

@@ -1,37 +1,22 @@
-use mathlib.Core.Path.{_≡_, refl, sym, ap, _∙_}
-use mathlib.Core.Logic.{inl, inr, ⊎-elim}
-use Prim.Native.Nat.{ℕ, _+_, _-_, _*_, _≤_, _<_}
-use Rattle.places.proofs.Entered.{Parts, parts-made, put-over, put-behind}
-use lib.ListN.{length, take, drop, getD, set, length-set}
+-- `places::put_entry` meets its contract. Assumes nothing.
 use native.Mathlib.Omega.{arith}
-use native.Mathlib.Numerals.{add-one}
 use borrow.Author.Needs.{needs}
+use Rattle.places.proofs.Entered.{Parts, parts-made, put-over, put-behind}
 use Rattle.places.proofs.put_entry.Statement.{statement}
 use Rattle.places.proofs.put_entry.Tie as tie
-use Rattle.places.proofs.put_entry.Reads as reads
-use Rattle.places.proofs.put_entry.Lts as lts
-use Rattle.links.proofs.long.Reads as long-reads
-use Rattle.links.proofs.put.Reads as put-reads
-use Rattle.words.proofs.clear.Reads as clear-reads
-use Rattle.words.proofs.copy.Reads as copy-reads
 
--- src/lib.rt:171:9
 long-requires : tie.Need-long-requires
 long-requires c κs = search needs
 
--- src/lib.rt:173:26
 mul-start : tie.Need-mul-start
 mul-start c = search needs
 
--- src/lib.rt:173:17
 add-start : tie.Need-add-start
 add-start c = search needs
 
--- src/lib.rt:174:5
 put-requires : tie.Need-put-requires
 put-requires c κs = search needs
 
--- src/lib.rt:175:5
 copy-requires : tie.Need-copy-requires
 copy-requires c κs = search needs
 
@@ -53,19 +38,15 @@ returns c =
     let put = put-at (c .before) in
     put-over (start-at put .pre) (put .before .before .long .ensures .0) (c .if1 .taken) (parts-at (c .before))
 
--- src/lib.rt:179:23
 add-clear : tie.Need-add-clear
 add-clear c = search needs
 
--- src/lib.rt:179:34
 sub-clear : tie.Need-sub-clear
 sub-clear c = search needs
 
--- src/lib.rt:179:5
 clear-requires : tie.Need-clear-requires
 clear-requires c κs = search needs
 
--- src/lib.rt:166:1
 returns-2 : tie.Need-returns-2
 returns-2 c =
     let put = put-at (c .before .before) in

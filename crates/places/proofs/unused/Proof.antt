@@ -1,26 +1,13 @@
-use mathlib.Core.Path.{_≡_, refl, sym, ap, _∙_}
-use mathlib.Core.Logic.{inl, inr, ⊎-elim}
-use Prim.Native.Nat.{ℕ, _+_, _-_, _*_, _≤_, _<_}
+-- `places::unused` meets its contract. Assumes nothing.
+use borrow.Author.Needs.{needs}
 use Rattle.words.proofs.Exact.{no-exact, denied, granted, exact-as}
 use Rattle.standing.proofs.Clear.{unused-behind, clear-unused}
-use lib.ListN.{length, take, drop, getD, set, length-set}
-use native.Mathlib.Omega.{arith}
-use native.Mathlib.Numerals.{add-one}
-use borrow.Author.Needs.{needs}
 use Rattle.places.proofs.unused.Statement.{statement}
 use Rattle.places.proofs.unused.Tie as tie
-use Rattle.places.proofs.unused.Reads as reads
-use Rattle.places.proofs.unused.Lts as lts
-use Rattle.links.proofs.blank.Reads as blank-reads
-use Rattle.links.proofs.count.Reads as count-reads
-use Rattle.links.proofs.rest_blank.Reads as rest-blank-reads
-use Rattle.places.proofs.behind_pieces.Reads as behind-pieces-reads
 
--- src/lib.rt:125:9
 rest-blank-requires : tie.Need-rest-blank-requires
 rest-blank-requires c κs = search needs
 
--- src/lib.rt:126:9
 returns : tie.Need-returns
 returns c =
     no-exact
@@ -28,31 +15,24 @@ returns c =
     denied (c .before .rest-blank .ensures) (c .if1 .taken)
     (record { links = record { zero = u .links }; lengths = record { zero = u .lengths } }))
 
--- src/lib.rt:128:9
 behind-pieces-requires : tie.Need-behind-pieces-requires
 behind-pieces-requires c κs = search needs
 
--- src/lib.rt:129:9
 returns-2 : tie.Need-returns-2
 returns-2 c = no-exact (λ u. denied (c .before .behind-pieces .ensures) (c .if2 .taken) (unused-behind _ u))
 
--- src/lib.rt:131:36
 count-requires : tie.Need-count-requires
 count-requires c κs = search needs
 
--- src/lib.rt:131:29
 mul-blank : tie.Need-mul-blank
 mul-blank c = search needs
 
--- src/lib.rt:131:20
 add-blank : tie.Need-add-blank
 add-blank c = search needs
 
--- src/lib.rt:131:5
 blank-requires : tie.Need-blank-requires
 blank-requires c κs = search needs
 
--- src/lib.rt:121:1
 returns-3 : tie.Need-returns-3
 returns-3 c =
     let at-behind = c .before .before in

@@ -1,8 +1,8 @@
 -- `session::rests` meets its contract: each rule is looked at where those before it hold. Assumes nothing.
-use native.Mathlib.Omega.{arith}
-use Rattle.words.proofs.Exact.{no-exact, denied, granted}
 use mathlib.Core.Path.{_≡_, sym, _∙_, ap}
+use native.Mathlib.Omega.{arith}
 use borrow.Author.Needs.{needs}
+use Rattle.words.proofs.Exact.{no-exact, denied, granted}
 use Rattle.standing.specs.Soundly.{longestOf, longest}
 use Rattle.standing.specs.Bytes.{sessionOf}
 use Rattle.session.proofs.Rising.{weighable, entries-weights}

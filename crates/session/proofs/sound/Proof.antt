@@ -1,10 +1,10 @@
 -- `session::sound` meets its contract: each rule is looked at where those before it hold. Assumes nothing.
 use native.Mathlib.Omega.{arith}
+use borrow.Author.Needs.{needs}
 use Rattle.words.proofs.Exact.{denied, granted}
 use Rattle.standing.proofs.ByPlace.{by-place, not-sound}
-use Rattle.session.proofs.Rising.{shallow}
-use borrow.Author.Needs.{needs}
 use Rattle.standing.specs.Numbers.{Lent}
+use Rattle.session.proofs.Rising.{shallow}
 use Rattle.session.proofs.sound.Statement.{statement}
 use Rattle.session.proofs.sound.Tie as tie
 

@@ -32,8 +32,8 @@ write-places-requires c κs =
     let few = bounds (c .before) in
     ((few .2, λ i lt. tidy-kept (pre .0) i (omega arith)), pre .1)
 
-put-head-requires : tie.Need-put-head-requires
-put-head-requires c κs = search needs
+set-head-requires : tie.Need-set-head-requires
+set-head-requires c κs = search needs
 
 returns : tie.Need-returns
 returns c =
@@ -41,11 +41,11 @@ returns c =
     let larger = written .before .before in
     let start = larger .before .before .before in
     let many = bounds larger in
-    c .put-head .ensures
+    c .set-head .ensures
     ∙ written-all (start .args .depth) (start .pre .1) (start .pre .0) (many .0) (omega (arith, many .1))
     (written .write-places .ensures)
 
 pub write-spec : {M : Type 1} → statement M
 write-spec =
     tie.close
-    (tie.spec count-requires larger-requires write-places-requires put-head-requires returns)
+    (tie.spec count-requires larger-requires write-places-requires set-head-requires returns)

@@ -2,9 +2,9 @@
 use mathlib.Core.Path.{_≡_, ap}
 use Prim.Native.Nat.{ℕ, _+_, _-_, _≤_}
 use native.Mathlib.Omega.{arith}
+use borrow.Author.Needs.{needs}
 use Rattle.standing.specs.Bytes.{countOf}
 use Rattle.links.proofs.Levelled.{Found, found-start, found-next, found-all}
-use borrow.Author.Needs.{needs}
 use Rattle.links.proofs.levels.find.Statement.{statement}
 use Rattle.links.proofs.levels.find.Tie as tie
 

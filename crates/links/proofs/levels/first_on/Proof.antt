@@ -1,21 +1,14 @@
-use mathlib.Core.Path.{_≡_, refl, sym, ap, _∙_}
-use mathlib.Core.Logic.{inl, inr, ⊎-elim}
-use Prim.Native.Nat.{ℕ, _+_, _-_, _*_, _≤_, _<_}
+-- `links::levels::first_on` meets its contract. Assumes nothing.
+use mathlib.Core.Path.{_≡_}
+use Prim.Native.Nat.{ℕ, _+_, _-_, _≤_, _<_}
+use native.Mathlib.Omega.{arith}
 use borrow.Author.Count.{below-more}
+use borrow.Author.Needs.{needs}
 use Rattle.standing.specs.Bytes.{countOf}
 use Rattle.standing.specs.Numbers.{footAt, startOf, levelOf}
 use Rattle.links.proofs.Levelled.{foot-after, foot-before}
-use lib.ListN.{length, take, drop, getD, set, length-set}
-use native.Mathlib.Omega.{arith}
-use native.Mathlib.Numerals.{add-one}
-use borrow.Author.Needs.{needs}
 use Rattle.links.proofs.levels.first_on.Statement.{statement}
 use Rattle.links.proofs.levels.first_on.Tie as tie
-use Rattle.links.proofs.levels.first_on.Reads as reads
-use Rattle.links.proofs.levels.first_on.Lts as lts
-use Rattle.links.proofs.count.Reads as count-reads
-use Rattle.links.proofs.foot.Reads as foot-reads
-use Rattle.links.proofs.levels.start.Reads as start-reads
 
 abbrev Inv-loop : tie.InvT-loop
 Inv-loop bytes starts below at end i₀ i =
@@ -24,19 +17,15 @@ Inv-loop bytes starts below at end i₀ i =
 abbrev μ-loop : tie.MeasureT-loop
 μ-loop bytes starts below at end i₀ i = end - i
 
--- src/levels.rt:47:29
 add-start : tie.Need-add-start Inv-loop μ-loop
 add-start c = search needs
 
--- src/levels.rt:47:9
 start-requires : tie.Need-start-requires Inv-loop μ-loop
 start-requires c κs = search needs
 
--- src/levels.rt:48:9
 start-requires-2 : tie.Need-start-requires-2 Inv-loop μ-loop
 start-requires-2 c κs = search needs
 
--- src/levels.rt:49:5
 loop-holds : tie.Need-loop-holds Inv-loop μ-loop
 loop-holds c =
     let at-start = c .before .before .before in
@@ -50,35 +39,28 @@ loop-holds c =
       λ k l e. omega (arith, from, foot-after levels _ k (omega (arith, from)) e),
     )
 
--- src/levels.rt:50:12
 foot-requires : tie.Need-foot-requires Inv-loop μ-loop
 foot-requires c κs = (c .before .before .before .before .before .pre .0 .graded .whole, omega arith)
 
--- src/levels.rt:51:13
 returns : tie.Need-returns Inv-loop μ-loop
 returns c =
     let inv = c .before .before .before .loop .inv in
     record { within = omega arith; before = inv .3; found = λ l. omega arith }
 
--- src/levels.rt:53:9
 add-i : tie.Need-add-i Inv-loop μ-loop
 add-i c = search needs
 
--- src/levels.rt:49:5
 loop-less : tie.Need-loop-less Inv-loop μ-loop
 loop-less c = search needs
 
--- src/levels.rt:49:5
 loop-again : tie.Need-loop-again Inv-loop μ-loop
 loop-again c =
     let inv = c .before .before .before .loop .inv in
     (inv .0, inv .1, inv .2, below-more _ _ (inv .3) (λ e. omega arith))
 
--- src/levels.rt:55:5
 count-requires : tie.Need-count-requires Inv-loop μ-loop
 count-requires c κs = c .before .before .before .before .before .pre .0 .graded .whole
 
--- src/levels.rt:42:1
 returns-2 : tie.Need-returns-2 Inv-loop μ-loop
 returns-2 c =
     let at-loop = c .before .before in

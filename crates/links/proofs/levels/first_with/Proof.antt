@@ -1,21 +1,14 @@
-use mathlib.Core.Path.{_≡_, refl, sym, ap, _∙_}
-use mathlib.Core.Logic.{inl, inr, ⊎-elim}
-use Prim.Native.Nat.{ℕ, _+_, _-_, _*_, _≤_, _<_}
+-- `links::levels::first_with` meets its contract. Assumes nothing.
+use mathlib.Core.Path.{_≡_}
+use Prim.Native.Nat.{ℕ, _-_, _≤_, _<_}
+use native.Mathlib.Omega.{arith}
 use borrow.Author.Count.{below-more}
+use borrow.Author.Needs.{needs}
 use Rattle.standing.specs.Bytes.{countOf}
 use Rattle.standing.specs.Numbers.{seatAt, startOf, levelOf}
 use Rattle.links.proofs.Levelled.{seat-after, seat-before}
-use lib.ListN.{length, take, drop, getD, set, length-set}
-use native.Mathlib.Omega.{arith}
-use native.Mathlib.Numerals.{add-one}
-use borrow.Author.Needs.{needs}
 use Rattle.links.proofs.levels.first_with.Statement.{statement}
 use Rattle.links.proofs.levels.first_with.Tie as tie
-use Rattle.links.proofs.levels.first_with.Reads as reads
-use Rattle.links.proofs.levels.first_with.Lts as lts
-use Rattle.links.proofs.count.Reads as count-reads
-use Rattle.links.proofs.levels.start.Reads as start-reads
-use Rattle.links.proofs.seat.Reads as seat-reads
 
 abbrev Inv-loop : tie.InvT-loop
 Inv-loop bytes starts above at end i₀ i =
@@ -24,19 +17,15 @@ Inv-loop bytes starts above at end i₀ i =
 abbrev μ-loop : tie.MeasureT-loop
 μ-loop bytes starts above at end i₀ i = end - i
 
--- src/levels.rt:64:9
 start-requires : tie.Need-start-requires Inv-loop μ-loop
 start-requires c κs = search needs
 
--- src/levels.rt:65:31
 sub-start : tie.Need-sub-start Inv-loop μ-loop
 sub-start c = search needs
 
--- src/levels.rt:65:9
 start-requires-2 : tie.Need-start-requires-2 Inv-loop μ-loop
 start-requires-2 c κs = search needs
 
--- src/levels.rt:66:5
 loop-holds : tie.Need-loop-holds Inv-loop μ-loop
 loop-holds c =
     let at-start = c .before .before .before in
@@ -50,35 +39,28 @@ loop-holds c =
       λ k l e. omega (arith, from, seat-after levels _ k (omega (arith, from)) e),
     )
 
--- src/levels.rt:67:12
 seat-requires : tie.Need-seat-requires Inv-loop μ-loop
 seat-requires c κs = (c .before .before .before .before .before .pre .0 .graded .whole, omega arith)
 
--- src/levels.rt:68:13
 returns : tie.Need-returns Inv-loop μ-loop
 returns c =
     let inv = c .before .before .before .loop .inv in
     record { within = omega arith; before = inv .3; found = λ l. omega arith }
 
--- src/levels.rt:70:9
 add-i : tie.Need-add-i Inv-loop μ-loop
 add-i c = search needs
 
--- src/levels.rt:66:5
 loop-less : tie.Need-loop-less Inv-loop μ-loop
 loop-less c = search needs
 
--- src/levels.rt:66:5
 loop-again : tie.Need-loop-again Inv-loop μ-loop
 loop-again c =
     let inv = c .before .before .before .loop .inv in
     (inv .0, inv .1, inv .2, below-more _ _ (inv .3) (λ e. omega arith))
 
--- src/levels.rt:72:5
 count-requires : tie.Need-count-requires Inv-loop μ-loop
 count-requires c κs = c .before .before .before .before .before .pre .0 .graded .whole
 
--- src/levels.rt:59:1
 returns-2 : tie.Need-returns-2 Inv-loop μ-loop
 returns-2 c =
     let at-loop = c .before .before in

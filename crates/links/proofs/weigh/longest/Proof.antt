@@ -1,11 +1,11 @@
 -- `links::weigh::longest` meets its contract: the links from i on are weighed. Assumes nothing.
 use Prim.Native.Nat.{_≤_}
 use native.Mathlib.Omega.{arith}
+use borrow.Author.Needs.{needs}
 use Rattle.standing.specs.Bytes.{countOf}
 use Rattle.standing.specs.Numbers.{Weighed}
 use Rattle.links.proofs.Weighed.{heaviest-longest, weighed-none, weighed-on}
 use Rattle.links.proofs.Levelled.{heaviest-from}
-use borrow.Author.Needs.{needs}
 use Rattle.links.proofs.weigh.longest.Statement.{statement}
 use Rattle.links.proofs.weigh.longest.Tie as tie
 

@@ -3,11 +3,11 @@ use mathlib.Core.Path.{_≡_}
 use mathlib.Core.Logic.{⊎-elim}
 use Prim.Native.Nat.{_+_, _-_, _≤_}
 use native.Mathlib.Omega.{arith}
+use borrow.Author.Needs.{needs}
 use Rattle.standing.specs.Bytes.{countOf}
 use Rattle.standing.specs.Numbers.{startOf, levelOf}
 use Rattle.links.proofs.Weighed.{Sought, sought-past, sought-met}
 use Rattle.links.proofs.Levelled.{sought-level, sought-ended}
-use borrow.Author.Needs.{needs}
 use Rattle.links.proofs.weigh.most_on.Statement.{statement}
 use Rattle.links.proofs.weigh.most_on.Tie as tie
 

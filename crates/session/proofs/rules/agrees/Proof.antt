@@ -1,8 +1,8 @@
 -- `session::rules::agrees` meets its contract. Assumes nothing.
 use native.Mathlib.Omega.{arith}
 use borrow.Author.Tests.{eq-eqb, eqb-true}
-use Rattle.words.proofs.Exact.{no-exact}
 use borrow.Author.Needs.{needs}
+use Rattle.words.proofs.Exact.{no-exact}
 use Rattle.session.proofs.rules.agrees.Statement.{statement}
 use Rattle.session.proofs.rules.agrees.Tie as tie
 

@@ -4,12 +4,12 @@ use mathlib.Core.Path.{_≡_}
 use mathlib.Core.Logic.{⊎-elim}
 use Prim.Native.Nat.{_+_, _-_, _≤_}
 use native.Mathlib.Omega.{arith}
+use borrow.Author.Needs.{needs}
 use Rattle.words.proofs.Exact.{yes-exact, no-exact, denied, granted}
 use Rattle.standing.specs.Bytes.{countOf}
 use Rattle.standing.specs.Numbers.{startOf, levelOf}
 use Rattle.standing.proofs.Passed.{Heads, heads-next, heads-skip, heads-apart}
 use Rattle.session.proofs.Rising.{heads-level, heads-ended}
-use borrow.Author.Needs.{needs}
 use Rattle.session.proofs.rules.apart.Statement.{statement}
 use Rattle.session.proofs.rules.apart.Tie as tie
 

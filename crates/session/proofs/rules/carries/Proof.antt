@@ -7,7 +7,6 @@ use Rattle.words.specs.Lists.{Exact}
 use Rattle.words.proofs.Exact.{yes-exact}
 use Rattle.standing.specs.Numbers.{Common}
 use Rattle.links.proofs.Levelled.{seat-low}
-use borrow.Author.Needs.{needs}
 use Rattle.session.proofs.rules.carries.Statement.{statement}
 use Rattle.session.proofs.rules.carries.Tie as tie
 

@@ -3,10 +3,10 @@ use mathlib.Core.Path.{_≡_}
 use Prim.Native.Nat.{ℕ, _-_, _<_}
 use native.Mathlib.Omega.{arith}
 use borrow.Author.Count.{below-more}
+use borrow.Author.Needs.{needs}
 use Rattle.words.proofs.Exact.{yes-exact, no-exact, denied, granted}
 use Rattle.standing.specs.Bytes.{countOf}
 use Rattle.standing.specs.Numbers.{RootedAt, CarriesAt}
-use borrow.Author.Needs.{needs}
 use Rattle.session.proofs.rules.groups.Statement.{statement}
 use Rattle.session.proofs.rules.groups.Tie as tie
 

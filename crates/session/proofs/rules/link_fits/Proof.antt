@@ -1,8 +1,8 @@
 -- `session::rules::link_fits` meets its contract. Assumes nothing.
 use native.Mathlib.Omega.{arith}
 use borrow.Author.Tests.{eq-eqb, eqb-true}
-use Rattle.words.proofs.Exact.{yes-exact, no-exact, denied, granted}
 use borrow.Author.Needs.{needs}
+use Rattle.words.proofs.Exact.{yes-exact, no-exact, denied, granted}
 use Rattle.session.proofs.rules.link_fits.Statement.{statement}
 use Rattle.session.proofs.rules.link_fits.Tie as tie
 

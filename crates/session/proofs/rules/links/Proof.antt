@@ -2,11 +2,11 @@
 use mathlib.Core.Path.{_≡_}
 use Prim.Native.Nat.{_-_}
 use native.Mathlib.Omega.{arith}
+use borrow.Author.Needs.{needs}
 use Rattle.words.proofs.Exact.{yes-exact, no-exact, denied, granted}
 use Rattle.table.specs.File.{tableOf}
 use Rattle.standing.specs.Bytes.{countOf}
 use Rattle.standing.proofs.Passed.{Risen, risen-start, risen-next, risen-not, risen-all}
-use borrow.Author.Needs.{needs}
 use Rattle.session.proofs.rules.links.Statement.{statement}
 use Rattle.session.proofs.rules.links.Tie as tie
 

@@ -1,30 +1,20 @@
-use mathlib.Core.Path.{_≡_, refl, sym, ap, _∙_}
+-- `session::rules::rooted` meets its contract. Assumes nothing.
+use mathlib.Core.Path.{sym, ap, _∙_}
 use mathlib.Core.Logic.{inl, inr, ⊎-elim}
-use Prim.Native.Nat.{ℕ, _+_, _-_, _*_, _≤_, _<_}
+use native.Mathlib.Omega.{arith}
+use borrow.Author.Needs.{needs}
 use Rattle.words.proofs.Exact.{yes-exact, exact-as, ltb-exact}
 use Rattle.standing.specs.Numbers.{levelOf}
 use Rattle.links.proofs.Levelled.{foot-level, over-bottom, first-found}
-use lib.ListN.{length, take, drop, getD, set, length-set}
-use native.Mathlib.Omega.{arith}
-use native.Mathlib.Numerals.{add-one}
-use borrow.Author.Needs.{needs}
 use Rattle.session.proofs.rules.rooted.Statement.{statement}
 use Rattle.session.proofs.rules.rooted.Tie as tie
-use Rattle.session.proofs.rules.rooted.Reads as reads
-use Rattle.session.proofs.rules.rooted.Lts as lts
-use Rattle.links.proofs.count.Reads as count-reads
-use Rattle.links.proofs.foot.Reads as foot-reads
-use Rattle.links.proofs.levels.first_with.Reads as first-with-reads
 
--- src/rules.rt:82:9
 foot-requires : tie.Need-foot-requires
 foot-requires c κs = search needs
 
--- src/rules.rt:84:9
 returns : tie.Need-returns
 returns c = yes-exact (inl (omega arith))
 
--- src/rules.rt:86:5
 first-with-requires : tie.Need-first-with-requires
 first-with-requires c κs =
     let pre = c .before .before .before .pre in
@@ -34,11 +24,9 @@ first-with-requires c κs =
     let level = ap levelOf is ∙ foot-level _ (levels .small) _ in
     (levels, omega (arith, level, over), omega (arith, level, levels .graded .low _ (pre .1)))
 
--- src/rules.rt:86:41
 count-requires : tie.Need-count-requires
 count-requires c κs = search needs
 
--- src/rules.rt:78:1
 returns-2 : tie.Need-returns-2
 returns-2 c =
     let after-foot = c .before .before .before in
