@@ -4,7 +4,7 @@ mod saying;
 mod taking;
 mod write;
 
-pub use drafting::slots::WORK;
+pub use drafting::WORK;
 pub use saying::Said;
 pub use saying::said_by_finish;
 pub use saying::said_by_step;

@@ -13,11 +13,11 @@ use Rattle.growing.proofs.growth.by_rows.Statement.{statement}
 use Rattle.growing.proofs.growth.by_rows.Tie as tie
 
 abbrev Inv-loop : tie.InvT-loop
-Inv-loop file session symbol i work₀ order₀ class n state grown₀ r₀ work order grown r =
-    (r₀ ≤ r) × (r ≤ n) × Passing (byRow file session symbol i) work₀ order₀ grown₀ r work order grown
+Inv-loop file session symbol i work₀ class n state grown₀ r₀ work grown r =
+    (r₀ ≤ r) × (r ≤ n) × Passing (byRow file session symbol i) work₀ grown₀ r work grown
 
 abbrev μ-loop : tie.MeasureT-loop
-μ-loop file session symbol i work₀ order₀ class n state grown₀ r₀ work order grown r = n - r
+μ-loop file session symbol i work₀ class n state grown₀ r₀ work grown r = n - r
 
 level-requires : tie.Need-level-requires Inv-loop μ-loop
 level-requires c κs = search needs
@@ -69,8 +69,8 @@ stopped : (c : tie.In-loop Inv-loop μ-loop)
     let a = known .before .before .before .before .before .before .before .args in
     let r = rowAt (a .file .now) (at-loop .loop .r) in
     (r .symbol ≡ a .symbol → r .from ≡ known .state .result → ⊥)
-    → Gathers (byRows (a .file .now) (a .session .now) (a .symbol) (a .i)) (a .work .now) (a .order .now) (a .growth)
-    (at-loop .loop .grown) (at-loop .loop .work) (at-loop .loop .order)
+    → Gathers (byRows (a .file .now) (a .session .now) (a .symbol) (a .i)) (a .work .now) (a .growth)
+    (at-loop .loop .grown) (at-loop .loop .work)
 stopped c other =
     let at-loop = c .before in
     let known = at-loop .before .before in

@@ -1,5 +1,8 @@
 -- `growing::growth::follow_internal` meets its contract. Assumes nothing.
-use mathlib.Core.Path.{ap}
+use mathlib.Core.Path.{_∙_, ap}
+use Prim.Native.Nat.{ℕ}
+use Rattle.standing.specs.Bytes.{linkAt}
+use Rattle.stepping.specs.Stepping.{movedTo}
 use mathlib.Core.List.{_++_, append-nil}
 use lib.ListN.{length, length-append}
 use native.Mathlib.Omega.{arith}
@@ -40,15 +43,16 @@ add-requires c κs =
     let piece = ap length (read .before .piece .ensures) in
     let word = ap length (read .row-word .ensures) in
     let room = simp length-append at (fitting-only (pre .1 .1) .1) in
-    (pre .1 .0, (read .before .before .moved .ensures .1, omega arith))
+    ((pre .1 .0, read .before .before .moved .ensures .clean), omega arith)
 
 returns : tie.Need-returns
 returns c =
     let read = c .before .before .before .before in
     let moved = read .before .before in
     let pre = moved .before .before .before .pre in
-    added (c .add .ensures) (fitting-only (pre .1 .1) .0)
-    (omega (arith, moved .moved .ensures, moved .before .row-to .ensures))
+    let args = moved .before .before .before .args in
+    added (c .add .ensures)
+    (moved .moved .ensures .is ∙ ap (λ (q : ℕ). movedTo q (linkAt (args .session .now) (args .i))) (moved .before .row-to .ensures))
     (simp append-nil (λ i. read .before .piece .ensures i ++ read .row-word .ensures i))
 
 pub follow-internal-spec : {M : Type 1} → statement M

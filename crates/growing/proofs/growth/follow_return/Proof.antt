@@ -9,11 +9,11 @@ use Rattle.growing.proofs.growth.follow_return.Statement.{statement}
 use Rattle.growing.proofs.growth.follow_return.Tie as tie
 
 abbrev Inv-loop : tie.InvT-loop
-Inv-loop file session i r work₀ order₀ n level grown₀ j₀ work order grown j =
-    (j ≤ n) × Passing (uncovered file session i r) work₀ order₀ grown₀ j work order grown
+Inv-loop file session i r work₀ n level grown₀ j₀ work grown j =
+    (j ≤ n) × Passing (uncovered file session i r) work₀ grown₀ j work grown
 
 abbrev μ-loop : tie.MeasureT-loop
-μ-loop file session i r work₀ order₀ n level grown₀ j₀ work order grown j = n - j
+μ-loop file session i r work₀ n level grown₀ j₀ work grown j = n - j
 
 count-requires : tie.Need-count-requires Inv-loop μ-loop
 count-requires c κs = search needs

@@ -10,11 +10,11 @@ use Rattle.growing.proofs.growth.grow.Statement.{statement}
 use Rattle.growing.proofs.growth.grow.Tie as tie
 
 abbrev Inv-loop : tie.InvT-loop
-Inv-loop file session symbol work₀ order₀ n grown₀ i₀ work order grown i =
-    (i ≤ n) × Passing (byRows file session symbol) work₀ order₀ grown₀ i work order grown
+Inv-loop file session symbol work₀ n grown₀ i₀ work grown i =
+    (i ≤ n) × Passing (byRows file session symbol) work₀ grown₀ i work grown
 
 abbrev μ-loop : tie.MeasureT-loop
-μ-loop file session symbol work₀ order₀ n grown₀ i₀ work order grown i = n - i
+μ-loop file session symbol work₀ n grown₀ i₀ work grown i = n - i
 
 count-requires : tie.Need-count-requires Inv-loop μ-loop
 count-requires c κs = search needs

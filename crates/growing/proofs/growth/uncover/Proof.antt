@@ -1,5 +1,8 @@
 -- `growing::growth::uncover` meets its contract. Assumes nothing.
-use mathlib.Core.Path.{_≡_, sym, ap}
+use mathlib.Core.Path.{_≡_, sym, _∙_, ap}
+use Prim.Native.Nat.{ℕ}
+use Rattle.standing.specs.Bytes.{linkAt}
+use Rattle.stepping.specs.Stepping.{movedTo}
 use mathlib.Core.List.{[], _∷_, _++_}
 use lib.ListN.{length, length-append}
 use native.Mathlib.Omega.{arith}
@@ -66,7 +69,7 @@ add-requires c κs =
     let upper = ap length (read .before .piece2 .ensures) in
     let word = ap length (read .row-word .ensures) in
     let room = simp length-append at (fitting-only (fitting (moved .before .before)) .1) in
-    (moved .before .before .before .before .before .before .pre .1 .0, (moved .moved .ensures .1, omega arith))
+    ((moved .before .before .before .before .before .before .pre .1 .0, moved .moved .ensures .clean), omega arith)
 
 returns-2 : tie.Need-returns-2
 returns-2 c =
@@ -74,9 +77,10 @@ returns-2 c =
     let lower = read .before .before in
     let moved = lower .before in
     let left = moved .before .before in
+    let args = left .before .before .before .before .args in
     gathers-as
-    (added (c .add .ensures) (fitting-only (fitting left) .0)
-    (omega (arith, moved .moved .ensures, moved .before .row-to .ensures))
+    (added (c .add .ensures)
+    (moved .moved .ensures .is ∙ ap (λ (q : ℕ). movedTo q (linkAt (args .session .now) (args .j))) (moved .before .row-to .ensures))
     (λ i. lower .piece .ensures i ++ read .before .piece2 .ensures i ++ read .row-word .ensures i))
     (met left)
 
