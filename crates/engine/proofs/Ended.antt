@@ -16,7 +16,7 @@ use Rattle.standing.specs.Sessions.{Entry, entry, Session, Ranges, RisesByLink,
 use Rattle.standing.specs.Soundly.{longest}
 use Rattle.standing.specs.Bytes.{linkStart, pieceRoom, countOf, lengthAt, linkAt, sessionOf, bytesOf}
 use Rattle.standing.specs.Numbers.{footAt, RootedAt}
-use Rattle.standing.proofs.Soundly.{lies-rooted}
+use Rattle.standing.proofs.Soundly.{Rooted, lies-rooted}
 use Rattle.standing.proofs.RoundTrip.{piece-short}
 use Rattle.stepping.specs.Promises.{Stepped}
 use Rattle.stepping.specs.Stepping.{grow, keep, kept, shaken, push, base, cut, stepped, sent, linkNumber}
@@ -85,7 +85,7 @@ module _ {file session work : List ℕ} {symbol depth : ℕ} (d : Left file sess
       subst (λ (K : List Entry). draftIn work i among K) (d .are)
       (part-in (draftIn work) 0 (countOf work) i (omega arith) lt)
 
-  lies-on : (i : ℕ) (lt : i < countOf work) → _
+  lies-on : (i : ℕ) → i < countOf work → Rooted (H l) (linkAt work i)
   lies-on i lt =
       lies-rooted (H l) (shaken-lies (T l) (S l) symbol (ok l)) (linkAt work i) (pieceIn work i) (drafted i lt)
 

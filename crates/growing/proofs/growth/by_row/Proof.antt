@@ -22,12 +22,12 @@ fitted c =
 
 follow-requires : tie.Need-follow-requires
 follow-requires c κs =
-    let fits = c .before .before in
+    let fits = c .before in
     let pre = fits .before .before .before .pre in
     (pre .0, (pre .1 .0, fitting-as (pre .1 .1) (sym (fitted fits))))
 
 returns : tie.Need-returns
-returns c = gathers-as (c .follow .ensures) (fitted (c .before .before .before))
+returns c = gathers-as (c .follow .ensures) (fitted (c .before .before))
 
 returns-2 : tie.Need-returns-2
 returns-2 c =

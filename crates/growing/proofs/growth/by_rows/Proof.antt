@@ -106,7 +106,7 @@ taken c =
 
 by-row-requires : tie.Need-by-row-requires Inv-loop μ-loop
 by-row-requires c κs =
-    let has = c .before .before .before .before in
+    let has = c .before .before .before in
     let in-loop = has .before .before .before in
     let at-loop = in-loop .before in
     let start = at-loop .before .before .before .before .before .before .before .before .before in
@@ -126,7 +126,7 @@ loop-less c = search needs
 
 loop-again : tie.Need-loop-again Inv-loop μ-loop
 loop-again c =
-    let has = c .before .before .before .before .before in
+    let has = c .before .before .before .before in
     let made = gathers-as (c .by-row .ensures) (taken has) in
     let passed = has .before .before .before .before .loop .inv .2 in
     (omega arith, omega arith, passing-next passed made)

@@ -38,7 +38,7 @@ part-add-end c = search needs
 
 add-requires : tie.Need-add-requires
 add-requires c κs =
-    let read = c .before .before .before in
+    let read = c .before .before in
     let pre = read .before .before .before .before .before .pre in
     let piece = ap length (read .before .piece .ensures) in
     let word = ap length (read .row-word .ensures) in
@@ -47,7 +47,7 @@ add-requires c κs =
 
 returns : tie.Need-returns
 returns c =
-    let read = c .before .before .before .before in
+    let read = c .before .before .before in
     let moved = read .before .before in
     let pre = moved .before .before .before .pre in
     let args = moved .before .before .before .args in

@@ -37,7 +37,7 @@ returns c =
 
 uncover-requires : tie.Need-uncover-requires Inv-loop μ-loop
 uncover-requires c κs =
-    let at-loop = c .before .before .before .before .before in
+    let at-loop = c .before .before .before .before in
     let start = at-loop .before .before .before .before in
     let a = start .args in
     let pre = start .pre in
@@ -57,7 +57,7 @@ loop-less c = search needs
 
 loop-again : tie.Need-loop-again Inv-loop μ-loop
 loop-again c =
-    let at-loop = c .before .before .before .before .before .before in
+    let at-loop = c .before .before .before .before .before in
     (omega arith, passing-next (at-loop .loop .inv .1) (c .uncover .ensures))
 
 returns-2 : tie.Need-returns-2 Inv-loop μ-loop

@@ -27,10 +27,10 @@ loop-holds c = (omega arith, passing-start)
 
 by-rows-requires : tie.Need-by-rows-requires Inv-loop μ-loop
 by-rows-requires c κs =
-    let start = c .before .before .before .before .before .before .before .before .before .before .before in
+    let start = c .before .before .before .before .before .before .before in
     let a = start .args in
-    let loop = c .before .before .before .loop in
-    let nothing = c .before .before .before .before .nothing .ensures in (
+    let loop = c .before .before .loop in
+    let nothing = c .before .before .before .nothing .ensures in (
       (start .pre .0, omega arith),
       (
         passing-ready (loop .inv .1) ([], nothing),
@@ -45,11 +45,11 @@ loop-less : tie.Need-loop-less Inv-loop μ-loop
 loop-less c = search needs
 
 loop-again : tie.Need-loop-again Inv-loop μ-loop
-loop-again c = (omega arith, passing-next (c .before .before .before .before .loop .inv .1) (c .by-rows .ensures))
+loop-again c = (omega arith, passing-next (c .before .before .before .loop .inv .1) (c .by-rows .ensures))
 
 returns : tie.Need-returns Inv-loop μ-loop
 returns c =
-    let a = c .before .before .before .before .before .before .before .before .before .args in
+    let a = c .before .before .before .before .before .before .args in
     grow-end (a .file .now) (a .session .now) (a .symbol) (c .before .loop .inv .1) (omega arith)
     (c .before .before .nothing .ensures)
 

@@ -63,7 +63,7 @@ row-word-requires c κs =
 
 add-requires : tie.Need-add-requires
 add-requires c κs =
-    let read = c .before .before in
+    let read = c .before in
     let moved = read .before .before .before in
     let lower = ap length (read .before .before .piece .ensures) in
     let upper = ap length (read .before .piece2 .ensures) in
@@ -73,7 +73,7 @@ add-requires c κs =
 
 returns-2 : tie.Need-returns-2
 returns-2 c =
-    let read = c .before .before .before in
+    let read = c .before .before in
     let lower = read .before .before in
     let moved = lower .before in
     let left = moved .before .before in
