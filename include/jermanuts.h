@@ -26,7 +26,7 @@ extern "C" {
 #endif
 
 #define JERMANUTS_SESSION 33218 /* bytes of a session */
-#define JERMANUTS_WORK 49664    /* bytes of the room that jermanuts_step_in works in */
+#define JERMANUTS_WORK 49920    /* bytes of the room that jermanuts_step_in works in */
 #define JERMANUTS_OUT 1024      /* bytes of out that suffice for every step and finish */
 #define JERMANUTS_FILE 6444     /* bytes of the longest rule file, which suffice for every join */
 

@@ -1,60 +1,68 @@
 -- What the pieces of the drafts with one foot have in common, draft by draft. Assumes nothing.
 use mathlib.Core.Path.{_≡_, refl, sym, _∙_, ap}
 use mathlib.Core.Logic.{_⊎_, inl, inr}
-use mathlib.Core.Bool.{Bool, true, false, cond, false≢true}
-use mathlib.Core.List.{List, [], _∷_, _++_}
-use Prim.Native.Nat.{ℕ, zero, suc, _+_, _≤_, _<_}
+use mathlib.Core.Bool.{Bool, true, false, false≢true}
+use mathlib.Core.List.{List, [], _∷_, _++_, map, map-append, append-nil, Memᴰ·append-left, Memᴰ·append-right}
+use mathlib.Core.List.{List·Memᴰ·head, List·Memᴰ·tail, List·Memᴰ·cases-cons, List·Memᴰ·append-cases}
+use mathlib.Core.List.{List·Memᴰ·eq-of-singleton}
+use Prim.Native.Nat.{ℕ, zero, suc, _+_, _-_, _*_, _≤_, _<_}
 use native.Mathlib.Omega.{arith}
-use native.Mathlib.Nat.{eq-zero-or-pos}
+use native.Mathlib.Nat.{eq-or-lt-of-le, eq-zero-or-pos}
 use native.Mathlib.Numerals.{add-one}
 use lib.Dec.{eqb}
 use lib.ListN.{length, take, drop, length-append, length-take, length-drop}
 use lib.Seq.{take-take}
 use borrow.Author.Tests.{eq-eqb, ne-eqb}
-use Rattle.words.specs.Lists.{only, isEmpty}
-use Rattle.words.specs.Words.{Word, Bytes, Begins, shared, common}
-use Rattle.words.proofs.Common.{shared-right, begins-take}
+use Rattle.words.specs.Lists.{_among_, only, isEmpty, upTo}
+use Rattle.words.specs.Words.{Word, Begins, shared, common}
+use Rattle.words.proofs.Lists.{each-append, below-or}
+use Rattle.words.proofs.Common.{shared-right, begins-take, common-same}
 use Rattle.words.proofs.Exact.{exact-same, eqb-exact}
 use Rattle.meaning.specs.Trails.{Link}
+use Rattle.standing.specs.Sessions.{Entry}
 use Rattle.standing.specs.Soundly.{piecesOn}
-use Rattle.standing.specs.Bytes.{linkFrom}
-use Rattle.standing.specs.Numbers.{seatFrom, footFrom}
+use Rattle.standing.specs.Bytes.{linkStart, countOf, lengthAt, linkAt}
+use Rattle.standing.specs.Numbers.{seatAt, footAt, startOf, levelOf, FirstAt, Levelled}
 use Rattle.stepping.specs.Stepping.{seat, hasFoot, base}
-use Rattle.drafting.specs.Drafts.{slotStart, lengthIn, pieceIn, slotOf, draftsOf, Reads, Holds, footOf, PicksFoot}
-use Rattle.drafting.specs.Drafts.{FirstOn, narrowedTo, CommonOn, seatNo, footNo}
+use Rattle.stepping.proofs.Push.{base-after}
+use Rattle.links.proofs.Levelled.{foot-before}
+use Rattle.drafting.specs.Drafts.{slotStart, draftRoom, workSize, whereAt, pieceIn, draftIn, draftsIn, draftsOf}
+use Rattle.drafting.specs.Drafts.{Drafted, PicksFoot, CommonOn, Plain, seatNo, footNo, Lies, Narrowed}
 use Rattle.drafting.proofs.Numbers.{foot-number, lowest-number, from-plain, foot-from}
+use Rattle.drafting.proofs.Listed.{part-cons}
+use Rattle.drafting.proofs.Rooms.{piece-length}
 
--- each draft stands in a slot that has a piece, of the length that is kept
-pub holds : {work order : List ℕ} {n s i : ℕ} → Reads work order n → i < n → s ≡ slotOf order i → Holds work s
-holds {work} {i = i} r lt e =
-    let d = r .drafts in
-    let l : i < r .all = omega (arith, r .within) in
-    rw e (record { whole = d .whole; within = omega (arith, d .within i l, d .few); short = d .short i l })
+-- a drafted piece lies in the room, and is as long as is kept
+module _ {work : List ℕ} (d : Drafted work) (i : ℕ) (lt : i < countOf work) where
+  pub draft-lies : Lies work i
+  draft-lies =
+      omega (arith, d .few, d .short i (omega arith) lt, d .high i (omega arith) lt)
 
-pub holds-place : {work order : List ℕ} {n s : ℕ} → Reads work order n → (i : ℕ) × (i < n) × (slotOf order i ≡ s)
-    → Holds work s
-holds-place d p = holds d (p .1) (sym (p .2))
+  pub draft-length : length (pieceIn work i) ≡ lengthAt work i
+  draft-length = piece-length work (whereAt work i) (lengthAt work i) (omega (arith, draft-lies, d .whole))
 
-pub piece-length : {work : List ℕ} {s : ℕ} → Holds work s → length (pieceIn work s) ≡ lengthIn work s
-piece-length {work} {s} h =
-    omega (
-      arith,
-      h .whole,
-      h .within,
-      h .short,
-      length-take (lengthIn work s) (drop (slotStart s + 8) work),
-      length-drop (slotStart s + 8) work,
-    )
+-- one word more, behind others: what it has in common with them
+common-last : (P : List Word) (x : Word) → isEmpty P ≡ false → common (P ++ x ∷ []) ≡ shared x (common P)
+common-last [] x e = absurd (false≢true (sym e))
+common-last (v ∷ P) x e = common-same ((v ∷ P) ++ x ∷ []) (x ∷ v ∷ P) (λ w. (to w, fro w))
+  where
+    to : (w : Word) → w among (v ∷ P) ++ x ∷ [] → w among x ∷ v ∷ P
+    to w m = go (List·Memᴰ·append-cases (v ∷ P) m)
+      where
+        go : (w among v ∷ P) ⊎ (w among x ∷ []) → w among x ∷ v ∷ P
+        go (inl h) = List·Memᴰ·tail h
+        go (inr h) = List·Memᴰ·head (List·Memᴰ·eq-of-singleton h)
 
--- one word more: what it has in common with the others, where there are any
-common-more : (b : Bool) (x : Word) (P : List Word) (y : Word) → isEmpty P ≡ false → common P ≡ y
-    → (isEmpty (only b x ++ P) ≡ false) × (common (only b x ++ P) ≡ cond b (shared x y) y)
-common-more false x P y e h = (e, h)
-common-more true x [] y e h = absurd (false≢true (sym e))
-common-more true x (v ∷ P) y e h = (refl, ap (shared x) h)
+    fro : (w : Word) → w among x ∷ v ∷ P → w among (v ∷ P) ++ x ∷ []
+    fro w m = go (List·Memᴰ·cases-cons m)
+      where
+        go : (w ≡ x) ⊎ (w among v ∷ P) → w among (v ∷ P) ++ x ∷ []
+        go (inl h) = Memᴰ·append-right (v ∷ P) (List·Memᴰ·head h)
+        go (inr h) = Memᴰ·append-left (x ∷ []) h
 
-begins-short : {xs ys : Word} → Begins xs ys → length xs ≤ length ys
-begins-short {xs} p = omega (arith, ap length (p .joins), length-append xs (p .rest))
+not-empty : (P : List Word) (x : Word) → isEmpty (P ++ x ∷ []) ≡ false
+not-empty [] x = refl
+not-empty (v ∷ P) x = refl
 
 -- what two words have in common, as a beginning of the second
 shared-take : (x y : Word) (k : ℕ) →
@@ -62,145 +70,181 @@ shared-take : (x y : Word) (k : ℕ) →
     (r ≤ k) × (shared x (take k y) ≡ take r y)
 shared-take x y k =
     let b = shared-right x (take k y) in
-    let le : length (shared x (take k y)) ≤ k = omega (arith, begins-short b, length-take k y) in
+    let s : length (shared x (take k y)) ≤ length (take k y) =
+    omega (arith, ap length (b .joins), length-append (shared x (take k y)) (b .rest)) in
+    let le : length (shared x (take k y)) ≤ k = omega (arith, length-take k y) in
     (le, sym (begins-take b) ∙ take-take (length (shared x (take k y))) k y le)
 
-narrower : (b : Bool) (x y : Word) (k r : ℕ) → r ≡ cond b (length (shared x (take k y))) k
-    → (r ≤ k) × (cond b (shared x (take k y)) (take k y) ≡ take r y)
-narrower true x y k r e =
-    let s = shared-take x y k in
-    (omega (arith, s .0), s .1 ∙ ap (λ (m : ℕ). take m y) (sym e))
-narrower false x y k r e = (omega arith, ap (λ (m : ℕ). take m y) (sym e))
+-- the pieces of the first drafts that pass a test, and of one more
+abbrev pub first-pieces : List ℕ → (Link → Bool) → ℕ → List Word
+first-pieces work test i = piecesOn test (map (draftIn work) (upTo i))
 
-module _ {work order : List ℕ} {n foot : ℕ} where
-  -- no draft before the first has the foot
-  none-before : {r : ℕ} → FirstOn work order n foot r → (test : Link → Bool) → PicksFoot work order n foot test
-      → (i : ℕ) → i ≤ r → piecesOn test (draftsOf work order i) ≡ []
-  none-before f test p zero le = refl
-  none-before f test p (suc i) le =
-      let e = p i (omega (arith, f .within)) ∙ ne-eqb (footOf work order i) foot (f .before i (omega arith)) in
-      rw e (none-before f test p i (omega arith))
+module _ (work : List ℕ) (test : Link → Bool) (i : ℕ) where
+  more-pieces : {b : Bool} → test (linkAt work i) ≡ b
+      → first-pieces work test (i + 1) ≡ first-pieces work test i ++ only b (pieceIn work i)
+  more-pieces e =
+      rw (add-one i, map-append (draftIn work) (upTo i) (i ∷ []))
+      (each-append (λ (e : Entry). only (test (e .link)) (e .piece)) (map (draftIn work) (upTo i)) (draftIn work i ∷ [])
+      ∙ ap (λ (l : List Word). first-pieces work test i ++ l)
+      (append-nil (only (test (linkAt work i)) (pieceIn work i))
+      ∙ ap (λ (b : Bool). only b (pieceIn work i)) e))
 
-  pub common-none : {r slot : ℕ} → FirstOn work order n foot r → r ≡ n → slot ≡ slotOf order 0
-      → CommonOn work order n foot slot 0
-  common-none f h e =
-      record {
-        place = λ lt. (0, lt, sym e);
-        some = λ lt. absurd (omega arith);
-        short = omega arith;
-        is = λ test p. ap common (none-before f test p n (omega arith));
-      }
-
--- how much is left, where a piece has the foot and where it has not
-pub narrowed-not : (work : List ℕ) (s foot t long f : ℕ) → f ≡ footFrom work (slotStart s) → (f ≡ foot → ⊥)
-    → long ≡ narrowedTo work s foot t long
-unfolding narrowedTo
-narrowed-not work s foot t long f e n = rw (ne-eqb (footFrom work (slotStart s)) foot (λ h. n (e ∙ h)))
-
-pub narrowed-by : (work : List ℕ) (s foot t long f : ℕ) → f ≡ footFrom work (slotStart s) → f ≡ foot
-    → length (shared (pieceIn work s) (take long (pieceIn work t))) ≡ narrowedTo work s foot t long
-unfolding narrowedTo
-narrowed-by work s foot t long f e h = rw (eq-eqb (footFrom work (slotStart s)) foot (sym e ∙ h))
+  skip-pieces : test (linkAt work i) ≡ false → first-pieces work test (i + 1) ≡ first-pieces work test i
+  skip-pieces e = more-pieces e ∙ append-nil (first-pieces work test i)
 
 -- those of the drafts before `i`, of which there are some
-pub record Narrowing (work order : List ℕ) (n foot slot i long : ℕ) : Type 0 where
-  pub within : i ≤ n
-  pub place : (k : ℕ) × (k < n) × (slotOf order k ≡ slot)
-  pub short : long ≤ lengthIn work slot
-  pub is : (test : Link → Bool) → PicksFoot work order n foot test →
-      let P = piecesOn test (draftsOf work order i) in
-      (isEmpty P ≡ false) × (common P ≡ take long (pieceIn work slot))
+pub record Narrowing (work : List ℕ) (foot at i long : ℕ) : Type 0 where
+  pub within : i ≤ countOf work
+  pub place : (k : ℕ) × (k < countOf work) × (whereAt work k ≡ at) × (footAt work k ≡ foot)
+  pub short : long ≤ draftRoom
+  pub lies : at + long ≤ workSize
+  pub is : (test : Link → Bool) → PicksFoot work foot test
+      → (isEmpty (first-pieces work test i) ≡ false)
+      × (common (first-pieces work test i) ≡ take long (drop at work))
 
-pub narrowing-start : {work order : List ℕ} {n foot slot r long : ℕ} → FirstOn work order n foot r → r < n
-    → slot ≡ slotOf order r → long ≡ lengthIn work slot → Narrowing work order n foot slot (r + 1) long
-narrowing-start {work} {order} {n} {foot} {slot} {r} {long} f lt e l =
-    record {
-      within = omega arith;
-      place = (r, lt, sym e);
-      short = omega arith;
-      is =
-          λ test p.
-          let t = p r lt ∙ eq-eqb (footOf work order r) foot (f .found lt) in
-          rw (add-one r, t, none-before f test p r (omega arith)) (refl, whole);
-    }
+module _ (work : List ℕ) {foot first : ℕ} (f : FirstAt (footAt work) (countOf work) foot first) where
+  -- no draft before the first has the foot
+  none-before : (test : Link → Bool) → PicksFoot work foot test → (i : ℕ) → i ≤ first → first-pieces work test i ≡ []
+  none-before test p zero le = refl
+  none-before test p (suc i) le =
+      let w = f .within in
+      let e = p i (omega arith) ∙ ne-eqb (footAt work i) foot (f .before i (omega arith)) in
+      ap (first-pieces work test) (sym (add-one i)) ∙ skip-pieces work test i e ∙ none-before test p i (omega arith)
+
+  pub common-none : first ≡ countOf work → CommonOn work foot 0 0
+  common-none h =
+      record {
+        place = λ lt. absurd (omega arith);
+        short = omega arith;
+        lies = omega arith;
+        is = λ test p. ap common (ap (first-pieces work test) (sym h) ∙ none-before test p first (omega arith));
+      }
+
+  pub narrowing-start : {at long : ℕ} → Drafted work → first < countOf work → at ≡ whereAt work first
+      → long ≡ lengthAt work first → Narrowing work foot at (first + 1) long
+  narrowing-start {at} {long} d lt e l =
+      record {
+        within = omega arith;
+        place = (first, lt, sym e, f .found lt);
+        short = omega (arith, d .short first (omega arith) lt);
+        lies = omega (arith, draft-lies d first lt);
+        is = λ test p.
+            let t = p first lt ∙ eq-eqb (footAt work first) foot (f .found lt) in
+            let one : first-pieces work test (first + 1) ≡ pieceIn work first ∷ [] =
+            more-pieces work test first t
+            ∙ ap (λ (P : List Word). P ++ pieceIn work first ∷ []) (none-before test p first (omega arith)) in
+            rw (one, e, l) (refl, refl);
+      }
+
+module _ {work : List ℕ} {foot at i long : ℕ} (g : Narrowing work foot at i long) (lt : i < countOf work) where
+  pub narrowing-past : (footAt work i ≡ foot → ⊥) → Narrowing work foot at (i + 1) long
+  narrowing-past n =
+      record {
+        within = omega arith;
+        place = g .place;
+        short = g .short;
+        lies = g .lies;
+        is = λ test p. rw (skip-pieces work test i (p i lt ∙ ne-eqb (footAt work i) foot n)) (g .is test p);
+      }
+
+  pub narrowing-met : {long′ : ℕ} → footAt work i ≡ foot
+      → long′ ≡ length (shared (pieceIn work i) (take long (drop at work))) → Narrowing work foot at (i + 1) long′
+  narrowing-met {long′} e is =
+      let s = shared-take (pieceIn work i) (drop at work) long in
+      let le = s .0 in
+      record {
+        within = omega arith;
+        place = g .place;
+        short = omega (arith, g .short);
+        lies = omega (arith, g .lies);
+        is = λ test p.
+            let P = first-pieces work test i in
+            let h = g .is test p in
+            rw (more-pieces work test i (p i lt ∙ eq-eqb (footAt work i) foot e))
+            (not-empty P (pieceIn work i),
+            common-last P (pieceIn work i) (h .0) ∙ ap (shared (pieceIn work i)) (h .1) ∙ s .1
+            ∙ ap (λ (k : ℕ). take k (drop at work)) (sym is));
+      }
+
+  pub narrowing-more : {long′ : ℕ} → Narrowed work i foot at long long′ → Narrowing work foot at (i + 1) long′
+  narrowing-more {long′} n = go (below-or (footAt work i) foot) (below-or foot (footAt work i))
+    where
+      apart : (footAt work i ≡ foot → ⊥) → Narrowing work foot at (i + 1) long′
+      apart f = rw (n .past f) (narrowing-past f)
+
+      go : (footAt work i < foot) ⊎ (foot ≤ footAt work i) → (foot < footAt work i) ⊎ (footAt work i ≤ foot)
+          → Narrowing work foot at (i + 1) long′
+      go (inl h) o = apart (λ e. omega arith)
+      go (inr h) (inl k) = apart (λ e. omega arith)
+      go (inr h) (inr k) = let e : footAt work i ≡ foot = omega arith in narrowing-met e (n .met e)
+
+-- behind the level's end no draft has the foot
+pub common-some : {work starts : List ℕ} {foot at i long : ℕ} → Levelled work starts
+    → Narrowing work foot at i long → startOf starts (levelOf foot + 1) ≤ i → CommonOn work foot at long
+common-some {work} {starts} {foot} {at} {i} {long} v g le = go (countOf work - i) i (omega (arith, g .within)) le g
   where
-    whole : pieceIn work (slotOf order r) ≡ take long (pieceIn work slot)
-    whole =
-        let k = lengthIn work slot in
-        rw (l, ← e) (sym (take-take k k (drop (slotStart slot + 8) work) (omega arith)))
-
-pub narrowing-more : {work order : List ℕ} {n foot slot i s long long′ : ℕ} → Narrowing work order n foot slot i long
-    → i < n → s ≡ slotOf order i → long′ ≡ narrowedTo work s foot slot long
-    → Narrowing work order n foot slot (i + 1) long′
-unfolding narrowedTo
-narrowing-more {work} {order} {n} {foot} {slot} {i} {s} {long} {long′} g lt there e =
-    let b = eqb (footOf work order i) foot in
-    let x = pieceIn work (slotOf order i) in
-    let y = pieceIn work slot in
-    let w = narrower b x y long long′ (rw there at e) in
-    record {
-      within = omega arith;
-      place = g .place;
-      short = omega (arith, w .0, g .short);
-      is =
-          λ test p.
-          let h = g .is test p in
-          let m = common-more b x (piecesOn test (draftsOf work order i)) (take long y) (h .0) (h .1) in
-          rw (add-one i, p i lt) (m .0, m .1 ∙ w .1);
-    }
-
-pub common-some : {work order : List ℕ} {n foot slot i long : ℕ} → Narrowing work order n foot slot i long → n ≤ i
-    → CommonOn work order n foot slot long
-common-some {work} {order} {n} {foot} {slot} {i} {long} g le =
-    let e : i ≡ n = omega (arith, g .within) in
-    let h = g .place .1 in
-    record {
-      place = λ lt. g .place;
-      some = λ lt. omega arith;
-      short = g .short;
-      is = λ test p. rw e at (g .is test p .1);
-    }
+    go : (s i : ℕ) → i + s ≡ countOf work → startOf starts (levelOf foot + 1) ≤ i → Narrowing work foot at i long
+        → CommonOn work foot at long
+    go zero i e le g =
+        let f : i ≡ countOf work = omega arith in
+        record {
+          place = λ p. g .place;
+          short = g .short;
+          lies = g .lies;
+          is = λ test p. rw (← f) (g .is test p .1);
+        }
+    go (suc s) i e le g =
+        let lt : i < countOf work = omega arith in
+        go s (i + 1) (omega arith) (omega arith)
+        (narrowing-past g lt (λ f. omega (arith, foot-before v foot i lt f)))
 
 -- it is so long
-pub common-length : {work order : List ℕ} {n foot slot long : ℕ} → Reads work order n
-    → CommonOn work order n foot slot long → length (take long (pieceIn work slot)) ≡ long
-common-length {work} {slot = slot} {long} r c = go (eq-zero-or-pos long)
-  where
-    go : (long ≡ 0) ⊎ (0 < long) → length (take long (pieceIn work slot)) ≡ long
-    go (inl z) = omega (arith, length-take long (pieceIn work slot))
-    go (inr p) =
-        let h = piece-length (holds-place r (c .place (c .some p))) in
-        omega (arith, length-take long (pieceIn work slot), c .short)
+pub common-length : {work : List ℕ} {foot at long : ℕ} → length work ≡ workSize → CommonOn work foot at long
+    → length (take long (drop at work)) ≡ long
+common-length {work} {foot} {at} {long} whole c = piece-length work at long (omega (arith, c .lies))
 
 -- as it is said of lists: on the pair of a link, and at level 0
-module _ {work order : List ℕ} {n : ℕ} (r : Reads work order n) where
-  small : Bytes work
-  small = r .drafts .small
+module _ {work : List ℕ} (d : Drafted work) where
+  foot-is : (i : ℕ) → i < countOf work → footAt work i ≡ footNo (linkAt work i)
+  foot-is i lt = foot-from work (d .small) (linkStart i) (d .below i (omega arith) lt)
 
-  abbrev at : ℕ → ℕ
-  at i = slotStart (slotOf order i)
+  plain : (i : ℕ) → Plain (linkAt work i)
+  plain i = from-plain work (d .small) (linkStart i)
 
-  foot-is : (i : ℕ) → i < n → footOf work order i ≡ footNo (linkFrom work (at i))
-  foot-is i lt = foot-from work small (at i) (r .drafts .below i (omega (arith, r .within)))
+  pub base-seat : {foot at long : ℕ} (i : ℕ) → foot ≡ seatAt work i → CommonOn work foot at long
+      → base (draftsOf work) (seat (linkAt work i)) ≡ take long (drop at work)
+  base-seat i e c =
+      c .is (hasFoot (seat (linkAt work i)))
+      (λ k lt.
+      rw (e, foot-is k lt)
+      (exact-same (foot-number (linkAt work k) (linkAt work i) (plain k) (plain i))
+      (eqb-exact (footNo (linkAt work k)) (seatNo (linkAt work i)))))
 
-  pub base-seat : {foot slot long : ℕ} (s : ℕ) → foot ≡ seatFrom work (slotStart s)
-      → CommonOn work order n foot slot long
-      → base (draftsOf work order n) (seat (linkFrom work (slotStart s))) ≡ take long (pieceIn work slot)
-  base-seat s e c =
-      let l = linkFrom work (slotStart s) in
-      c .is (hasFoot (seat l))
-      (λ i lt.
-      let k = linkFrom work (at i) in
-      rw (e, foot-is i lt)
-      (exact-same
-      (foot-number k l (from-plain work small (at i)) (from-plain work small (slotStart s)))
-      (eqb-exact (footNo k) (seatNo l))))
-
-  pub base-bottom : {slot long : ℕ} → CommonOn work order n 0 slot long
-      → base (draftsOf work order n) (0 ∷ []) ≡ take long (pieceIn work slot)
+  pub base-bottom : {at long : ℕ} → CommonOn work 0 at long → base (draftsOf work) (0 ∷ []) ≡ take long (drop at work)
   base-bottom c =
       c .is (hasFoot (0 ∷ []))
-      (λ i lt.
-      let k = linkFrom work (at i) in
-      rw (foot-is i lt)
-      (exact-same (lowest-number k (from-plain work small (at i))) (eqb-exact (footNo k) 0)))
+      (λ k lt.
+      rw (foot-is k lt) (exact-same (lowest-number (linkAt work k) (plain k)) (eqb-exact (footNo (linkAt work k)) 0)))
+
+-- what stands on a draft comes after it
+pub above-all : (work : List ℕ) (n i : ℕ) → i < n
+    → ((j k : ℕ) → j < k → k < n → linkAt work j .level ≤ linkAt work k .level)
+    → base (map (draftIn work) (upTo n)) (seat (linkAt work i)) ≡ base (draftsIn work (i + 1) n) (seat (linkAt work i))
+above-all work n i lt rise = go (i + 1) 0 (omega arith)
+  where
+    level : (a : ℕ) → a ≤ i → linkAt work a .level ≤ linkAt work i .level
+    level a le = at (eq-or-lt-of-le le)
+      where
+        at : (a ≡ i) ⊎ (a < i) → linkAt work a .level ≤ linkAt work i .level
+        at (inl e) = rw e (omega arith)
+        at (inr l) = rise a i l lt
+
+    go : (s a : ℕ) → a + s ≡ i + 1
+        → base (draftsIn work a n) (seat (linkAt work i)) ≡ base (draftsIn work (i + 1) n) (seat (linkAt work i))
+    go zero a e =
+        let f : a ≡ i + 1 = omega arith in
+        ap (λ (a : ℕ). base (draftsIn work a n) (seat (linkAt work i))) f
+    go (suc s) a e =
+        ap (λ (E : List Entry). base E (seat (linkAt work i))) (part-cons (draftIn work) a n (omega arith))
+        ∙ base-after (draftIn work a) (draftsIn work (a + 1) n) (linkAt work i) (level a (omega arith))
+        ∙ go s (a + 1) (omega arith)

@@ -1,14 +1,11 @@
--- What follows of the definitions in `specs/`, one family of facts a file, each building on those before it.
+-- What the functions of drafts rest on.
+pub mod Listed
 pub mod Numbers
-pub mod Written
-pub mod Drafted
-pub mod Over
-pub mod Lowered
+pub mod Rooms
+pub mod Carried
 pub mod Putting
 pub mod Turns
+pub mod Shaken
 pub mod Groups
-pub mod Appended
 pub mod Pushing
-pub mod Beside
-pub mod Loaded
-pub mod Ranks
+pub mod Cut

@@ -1,6 +1,10 @@
--- What the search for the place of an entry leaves, and a piece that is three parts. Assumes nothing.
-use mathlib.Core.Path.{_≡_, sym, _∙_, ap, ap₂}
+-- The search for a link's place among the drafts, turn by turn; and a piece that is three parts. Assumes nothing.
+use mathlib.Core.Path.{_≡_, sym, _∙_, ap, ap₂, subst}
+use mathlib.Core.Bool.{Bool, false, false≢true}
+use mathlib.Core.Logic.{_⊎_, inl, inr}
 use mathlib.Core.List.{List, _++_, append-assoc}
+use Rattle.words.specs.Lists.{Exact}
+use Rattle.words.proofs.Lists.{below-or}
 use Prim.Native.Nat.{ℕ, _+_, _-_, _<_, _≤_}
 use native.Mathlib.Nat.{add-sub-cancel-left}
 use native.Mathlib.Omega.{arith}
@@ -8,27 +12,48 @@ use borrow.Author.Count.{below-more}
 use lib.ListN.{length, take, drop, length-append, take-append-drop, length-drop}
 use lib.Seq.{take-append-seam, drop-append-seam, take-all, drop-drop}
 use Rattle.words.specs.Words.{Word}
-use Rattle.standing.specs.Numbers.{keyFrom}
-use Rattle.drafting.specs.Drafts.{slotStart, slotOf, Place}
+use Rattle.standing.specs.Numbers.{keyAt}
+use Rattle.links.specs.declared.Link.{Link as Five}
+use Rattle.links.specs.Heads.{keyOf, Stands, Compared}
+use Rattle.words.specs.declared.byte_order.Order.{Order}
+use Rattle.words.specs.declared.byte_order.Order.the-variants.{Before, Same, After}
+use Rattle.drafting.specs.Drafts.{Place}
 
--- the first drafts have greater numbers
-pub record Above (work order : List ℕ) (key n : ℕ) : Type 0 where
-  pub each : (i : ℕ) → i < n → key < keyFrom work (slotStart (slotOf order i))
+-- what comparing tells, by its answer
+module _ {bytes : List ℕ} {i : ℕ} {l : Five} {r : Order} (c : Compared bytes i l r) where
+  pub told-before : r ≡ Before → keyAt bytes i < keyOf l
+  told-before e = subst (λ (r : Order). Stands r (keyAt bytes i) (keyOf l)) e (c .stands)
 
-pub above-none : {work order : List ℕ} {key : ℕ} → Above work order key 0
-above-none = record { each = λ i h. absurd (omega arith) }
+  pub told-same : r ≡ Same → keyAt bytes i ≡ keyOf l
+  told-same e = subst (λ (r : Order). Stands r (keyAt bytes i) (keyOf l)) e (c .stands)
 
--- where the numbers fall, all up to one that is greater are greater
-pub above-upto : {work order : List ℕ} {key n : ℕ} (m : ℕ)
-    → ((i j : ℕ) → i < j → j < n
-    → keyFrom work (slotStart (slotOf order j)) < keyFrom work (slotStart (slotOf order i)))
-    → m < n → key < keyFrom work (slotStart (slotOf order m)) → Above work order key (m + 1)
-above-upto {work} {order} {key} m fall lt h =
-    record { each = below-more _ _ (λ i l. let f = fall i m l lt in omega arith) h }
+  pub told-after : r ≡ After → keyOf l < keyAt bytes i
+  told-after e = subst (λ (r : Order). Stands r (keyAt bytes i) (keyOf l)) e (c .stands)
 
-pub above-place : {work order : List ℕ} {key n at : ℕ} → Above work order key at → at ≤ n
-    → (at < n → keyFrom work (slotStart (slotOf order at)) ≤ key) → Place work order n key at
-above-place a h e = record { within = h; above = a .each; here = e }
+pub not-below : {a b : ℕ} {r : Bool} → Exact (a < b) r → r ≡ false → b ≤ a
+not-below {a} {b} e f = go (below-or a b)
+  where
+    go : (a < b) ⊎ (b ≤ a) → b ≤ a
+    go (inl h) = absurd (false≢true (sym f ∙ e .0 h))
+    go (inr h) = h
+
+-- the first drafts are below a link
+pub record Beneath (work : List ℕ) (l : Five) (n : ℕ) : Type 0 where
+  pub each : (i : ℕ) → i < n → keyAt work i < keyOf l
+
+pub beneath-none : {work : List ℕ} {l : Five} → Beneath work l 0
+beneath-none = record { each = λ i h. absurd (omega arith) }
+
+-- where the numbers rise, all up to one that is below are below
+pub beneath-upto : {work : List ℕ} {l : Five} {n : ℕ} (m : ℕ)
+    → ((i j : ℕ) → i < j → j < n → keyAt work i < keyAt work j) → m < n → keyAt work m < keyOf l
+    → Beneath work l (m + 1)
+beneath-upto m rise lt h =
+    record { each = below-more _ _ (λ i o. let r = rise i m o lt in omega arith) h }
+
+pub beneath-place : {work : List ℕ} {l : Five} {n at : ℕ} → Beneath work l at → at ≤ n
+    → (at < n → keyOf l ≤ keyAt work at) → Place work n l at
+beneath-place b h e = record { within = h; below = b .each; here = e }
 
 -- a piece that is three parts has each at its place, and one that has them is the three
 module _ (piece a b c : Word) where

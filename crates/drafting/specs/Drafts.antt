@@ -1,69 +1,91 @@
--- The room that a step works in: 64 slots, each with the five bytes of a link, two of a length, one that is not used,
--- and 768 places for a piece; and the order in which the slots are read, the last link first.
+-- The room that a step works in: a head as a session has, two bytes a link for where its piece starts, two for how much
+-- it handed down, and 64 slots of 768 places for pieces. Drafts stand in the order of a session's links.
 use mathlib.Core.Path.{_≡_}
 use mathlib.Core.Logic.{_⊎_, _↔_}
-use mathlib.Core.Bool.{Bool, true, false, cond}
+use mathlib.Core.Bool.{Bool, true, false}
 use mathlib.Core.Option.{Option, some, none}
-use mathlib.Core.List.{List, [], _∷_, _++_}
-use Prim.Native.Nat.{ℕ, zero, suc, _+_, _*_, _/_, _%_, _<_, _≤_}
+use mathlib.Core.List.{List, [], _∷_, _++_, map}
+use Prim.Native.Nat.{ℕ, _+_, _-_, _*_, _/_, _%_, _<_, _≤_}
 use lib.Dec.{eqb}
-use lib.ListN.{length, getD, take, drop}
-use Rattle.words.specs.Lists.{_among_}
+use lib.ListN.{length, getD, set, take, drop}
+use Rattle.words.specs.Lists.{_among_, upTo}
 use Rattle.words.specs.Words.{Word, Bytes, shared, common}
 use Rattle.words.specs.Order.{put}
 use Rattle.words.specs.LittleEndian.{byte, two}
 use Rattle.meaning.specs.Trails.{Pair, Link}
 use Rattle.meaning.specs.Answers.{linksCap}
-use Rattle.standing.specs.Sessions.{Entry, entry}
-use Rattle.standing.specs.Soundly.{piecesOn}
-use Rattle.standing.specs.Bytes.{countOf, linkFrom, linkAt, NoneBelow, sessionOf}
-use Rattle.standing.specs.Numbers.{seatAt, seatFrom, footFrom, keyFrom, startOf, levelOf}
-use Rattle.stepping.specs.Stepping.{seat, lower, shake, base, push, entryKey, clashes}
-use Rattle.drafting.specs.declared.lower.Shaken.{Shaken}
-use Rattle.drafting.specs.declared.lower.Shaken.the-variants.{Full, Drafted}
+use Rattle.standing.specs.Sessions.{Entry, entry, RisesByLink}
+use Rattle.standing.specs.Soundly.{piecesOn, longest}
+use Rattle.standing.specs.Bytes.{linkStart, countOf, lengthAt, linkAt, NoneBelow, sessionOf}
+use Rattle.standing.specs.Numbers.{seatAt, footAt, keyAt, RootedAt}
+use Rattle.stepping.specs.Stepping.{seat, foot, lower, shake, base, push, cut, entryKey, clashes}
+use Rattle.links.specs.Heads.{fiveOf, keyOf, meant}
+use Rattle.links.specs.declared.Link.{Link as Five}
 use Rattle.drafting.specs.declared.keeping.Keeping.{Keeping}
 use Rattle.drafting.specs.declared.keeping.Keeping.the-variants.{Same, Other, New, Full}
+use Rattle.drafting.specs.declared.settling.Settled.{Settled}
+
+-- where the places of pieces, what was handed down, and the slots start; how many bytes a slot has, and the room
+abbrev pub whereStart : ℕ → ℕ
+whereStart i = 450 + 2 * i
+
+abbrev pub handedStart : ℕ → ℕ
+handedStart i = 578 + 2 * i
 
 abbrev pub slotStart : ℕ → ℕ
-slotStart s = 776 * s
+slotStart s = 768 + 768 * s
 
 abbrev pub draftRoom : ℕ
 draftRoom = 768
 
 abbrev pub workSize : ℕ
-workSize = 49664
+workSize = 49920
 
-abbrev pub lengthIn : List ℕ → ℕ → ℕ
-lengthIn work s = two work (slotStart s + 5)
+-- where the piece of a draft starts, how much it handed down, and what it is
+abbrev pub whereAt : List ℕ → ℕ → ℕ
+whereAt work i = two work (whereStart i)
+
+abbrev pub handedAt : List ℕ → ℕ → ℕ
+handedAt work i = two work (handedStart i)
 
 abbrev pub pieceIn : List ℕ → ℕ → Word
-pieceIn work s = take (lengthIn work s) (drop (slotStart s + 8) work)
+pieceIn work i = take (lengthAt work i) (drop (whereAt work i) work)
 
 abbrev pub draftIn : List ℕ → ℕ → Entry
-draftIn work s = entry (linkFrom work (slotStart s)) (pieceIn work s)
+draftIn work i = entry (linkAt work i) (pieceIn work i)
 
-abbrev pub slotOf : List ℕ → ℕ → ℕ
-slotOf order i = getD order i 0
+-- the entries at the places from one up to another; all that are drafted
+abbrev pub draftsIn : List ℕ → ℕ → ℕ → List Entry
+draftsIn work from to = drop from (map (draftIn work) (upTo to))
 
--- things stacked, the last put on first
-abbrev pub stacked : {A : Type 0} → (ℕ → A) → ℕ → List A
-stacked f zero = []
-stacked f (suc n) = f n ∷ stacked f n
+abbrev pub draftsOf : List ℕ → List Entry
+draftsOf work = map (draftIn work) (upTo (countOf work))
 
--- the entries that are drafted, in the order of a session's
-abbrev pub draftsOf : List ℕ → List ℕ → ℕ → List Entry
-draftsOf work order n = stacked (λ i. draftIn work (slotOf order i)) n
+-- two bytes were written as a number
+abbrev pub withTwo : List ℕ → ℕ → ℕ → List ℕ
+withTwo bytes at n = set (set bytes at (n % 256)) (at + 1) (n / 256)
 
--- `n` slots are in use, and read once each
-pub record Drafts (work order : List ℕ) (n : ℕ) : Type 0 where
+-- no two slots share a place
+abbrev pub Away : ℕ → ℕ → Type 0
+Away a b = (a + draftRoom ≤ b) ⊎ (b + draftRoom ≤ a)
+
+-- drafts stand at the places from one up to another, each with a slot of its own: as many of the first as there are
+pub record Drafts (work : List ℕ) (from to : ℕ) : Type 0 where
   pub whole : length work ≡ workSize
   pub small : Bytes work
-  pub ordered : length order ≡ linksCap
-  pub few : n ≤ linksCap
-  pub within : (i : ℕ) → i < n → slotOf order i < n
-  pub once : (i j : ℕ) → i < j → j < n → slotOf order i ≡ slotOf order j → ⊥
-  pub below : (i : ℕ) → i < n → NoneBelow work (slotStart (slotOf order i))
-  pub short : (i : ℕ) → i < n → lengthIn work (slotOf order i) ≤ draftRoom
+  pub few : to ≤ linksCap
+  pub below : (i : ℕ) → from ≤ i → i < to → NoneBelow work (linkStart i)
+  pub short : (i : ℕ) → from ≤ i → i < to → lengthAt work i ≤ draftRoom
+  pub low : (i : ℕ) → from ≤ i → i < to → slotStart 0 ≤ whereAt work i
+  pub high : (i : ℕ) → from ≤ i → i < to → whereAt work i + draftRoom ≤ slotStart (to - from)
+  pub apart : (i j : ℕ) → from ≤ i → i < j → j < to → Away (whereAt work i) (whereAt work j)
+
+abbrev pub Drafted : List ℕ → Type 0
+Drafted work = Drafts work 0 (countOf work)
+
+-- a piece lies in the room
+abbrev pub Lies : List ℕ → ℕ → Type 0
+Lies work i = whereAt work i + lengthAt work i ≤ workSize
 
 -- links as numbers, as `keyFrom`, `seatFrom` and `footFrom` have them of bytes
 abbrev pub pairNo : Option Pair → ℕ
@@ -87,15 +109,49 @@ pub record Plain (l : Link) : Type 0 where
   pub none : (l .level ≡ 0) ↔ (l .below ≡ none)
   pub pair : (p : Pair) → l .below ≡ some p → (p .state < 256) × (p .marker < 256)
 
--- a slot was filled with the link of a number and a piece, and all other slots are as they were
-pub record Filled (work : List ℕ) (s key : ℕ) (piece : Word) (work′ : List ℕ) : Type 0 where
+-- five bytes of a link, of which the last two are 0 at level 0
+pub record Clean (l : Five) : Type 0 where
+  pub level : l .level < 256
+  pub state : l .state < 256
+  pub marker : l .marker < 256
+  pub state-below : l .«state_below» < 256
+  pub marker-below : l .«marker_below» < 256
+  pub none : l .level ≡ 0 → (l .«state_below» ≡ 0) × (l .«marker_below» ≡ 0)
+
+-- what stood at a place stands at another
+pub record Moved (work : List ℕ) (i : ℕ) (work′ : List ℕ) (j : ℕ) : Type 0 where
+  pub link : (k : ℕ) → k < 5 → byte work′ (linkStart j + k) ≡ byte work (linkStart i + k)
+  pub long : lengthAt work′ j ≡ lengthAt work i
+  pub start : whereAt work′ j ≡ whereAt work i
+
+-- what is not said of places is as it was: what was handed down, and the slots
+pub record Rest (work work′ : List ℕ) : Type 0 where
   pub whole : length work′ ≡ length work
-  pub small : Bytes work′
-  pub link : (l : Link) → Plain l → linkNo l ≡ key
-      → (linkFrom work′ (slotStart s) ≡ l) × NoneBelow work′ (slotStart s)
-  pub long : lengthIn work′ s ≡ length piece
-  pub is : pieceIn work′ s ≡ piece
-  pub others : (k : ℕ) → (k < slotStart s) ⊎ (slotStart (s + 1) ≤ k) → byte work′ k ≡ byte work k
+  pub small : Bytes work → Bytes work′
+  pub slots : (k : ℕ) → handedStart 0 ≤ k → byte work′ k ≡ byte work k
+
+-- only one place was written
+pub record Wrote (work : List ℕ) (i : ℕ) (work′ : List ℕ) : Type 0 where
+  pub rest : Rest work work′
+  pub others : (k : ℕ) → k < linksCap → (k ≡ i → ⊥) → Moved work k work′ k
+
+-- a link, the length of its piece and where that starts were written at a place
+pub record Drew (work : List ℕ) (i : ℕ) (l : Five) (n at : ℕ) (work′ : List ℕ) : Type 0 where
+  pub wrote : Wrote work i work′
+  pub five : (j : ℕ) → j < 5 → byte work′ (linkStart i + j) ≡ getD (fiveOf l) j 0
+  pub long : lengthAt work′ i ≡ n
+  pub start : whereAt work′ i ≡ at
+
+-- what stood at the places from `at` up to `n` stands `by` places later; what stood before them is as it was
+pub record Lifted (work : List ℕ) (at n by : ℕ) (work′ : List ℕ) : Type 0 where
+  pub rest : Rest work work′
+  pub before : (k : ℕ) → k < at → Moved work k work′ k
+  pub moved : (k : ℕ) → at ≤ k → k < n → Moved work k work′ (k + by)
+
+-- what stood at the places from `first` on stands at the first places
+pub record Lowered (work : List ℕ) (first n : ℕ) (work′ : List ℕ) : Type 0 where
+  pub rest : Rest work work′
+  pub moved : (k : ℕ) → k < n → Moved work (first + k) work′ k
 
 -- the bytes of a word were written from a place on
 pub record Written (work : List ℕ) (at : ℕ) (w : Word) (work′ : List ℕ) : Type 0 where
@@ -103,167 +159,170 @@ pub record Written (work : List ℕ) (at : ℕ) (w : Word) (work′ : List ℕ) 
   pub here : (i : ℕ) → i < length w → byte work′ (at + i) ≡ byte w i
   pub others : (k : ℕ) → (k < at) ⊎ (at + length w ≤ k) → byte work′ k ≡ byte work k
 
--- the bytes of a slot before its piece: of a link's number, the first byte first, and of a length
-abbrev pub headBytes : ℕ → ℕ → Word
-headBytes key n =
-    key / 4294967296
-    ∷ key / 16777216 % 256
-    ∷ key / 65536 % 256
-    ∷ key / 256 % 256
-    ∷ key % 256
-    ∷ n % 256
-    ∷ n / 256
-    ∷ []
-
--- a draft has this foot
-abbrev pub Footed : List ℕ → List ℕ → ℕ → ℕ → Type 0
-Footed work order n seat = (i : ℕ) × (i < n) × (footFrom work (slotStart (slotOf order i)) ≡ seat)
-
--- a link of a session is below a depth, and a draft stands on it
-abbrev pub Stays : List ℕ → ℕ → ℕ → List ℕ → List ℕ → ℕ → Type 0
-Stays session i d work order n = (linkAt session i .level < d) × Footed work order n (seatAt session i)
-
--- all links of a list are at one level
-abbrev pub AllAt : ℕ → List Entry → Type 0
-AllAt d E = (e : Entry) → e among E → e .link .level ≡ d
-
--- one entry more is drafted, in front of the others
-pub record OneMore (e : Entry) (work order : List ℕ) (n : ℕ) (work′ order′ : List ℕ) : Type 0 where
-  pub drafts : Drafts work′ order′ (n + 1)
-  pub are : draftsOf work′ order′ (n + 1) ≡ e ∷ draftsOf work order n
-
--- of the lower entries of a session and those over them, what is left once shaken
-abbrev pub shakenOver : List ℕ → ℕ → List Entry → List Entry
-shakenOver session d E = shake d (lower d (sessionOf session .entries) ++ E)
-
--- the levels of a session's links rise
-abbrev pub LevelsRise : List ℕ → Type 0
-LevelsRise session =
-    (j k : ℕ) → j ≤ k → k < countOf session → linkAt session j .level ≤ linkAt session k .level
-
--- the level of a draft; each draft stands between the end of the level above its own and that of its own
-abbrev pub levelIn : List ℕ → List ℕ → ℕ → ℕ
-levelIn work order i = linkFrom work (slotStart (slotOf order i)) .level
-
-pub record Ranked (work order : List ℕ) (n : ℕ) (ends : List ℕ) : Type 0 where
-  pub long : length ends ≡ 35
-  pub low : (i : ℕ) → i < n → levelIn work order i ≤ 32
-  pub within : (l : ℕ) → startOf ends l ≤ n
-  pub after : (i : ℕ) → i < n → startOf ends (levelIn work order i + 1) ≤ i
-  pub before : (i : ℕ) → i < n → i < startOf ends (levelIn work order i)
-
--- what shaking answers of what is left: it is drafted, or has more than there are slots for
-abbrev pub ShakenTo : List Entry → List ℕ → List ℕ → List ℕ → Shaken → Type 0
-ShakenTo E work order ends Full = linksCap < length E
-ShakenTo E work order ends (Drafted n) =
-    Drafts work order n × (draftsOf work order n ≡ E) × Ranked work order n ends
-
--- the place of a number among the drafts: those before it have a greater one
-pub record Place (work order : List ℕ) (n key at : ℕ) : Type 0 where
+-- the place of a link among the drafts: those before it are below it
+pub record Place (work : List ℕ) (n : ℕ) (l : Five) (at : ℕ) : Type 0 where
   pub within : at ≤ n
-  pub above : (i : ℕ) → i < at → key < keyFrom work (slotStart (slotOf order i))
-  pub here : at < n → keyFrom work (slotStart (slotOf order at)) ≤ key
+  pub below : (i : ℕ) → i < at → keyAt work i < keyOf l
+  pub here : at < n → keyOf l ≤ keyAt work at
 
 -- what became of an entry: its link is there, with another piece or not; it was put at its place; or no slot is left
-pub record There (other : Bool) (work order : List ℕ) (n : ℕ) (e : Entry) (work′ order′ : List ℕ) : Type 0 where
-  pub clash : clashes e (draftsOf work order n) ≡ other
-  pub is : put entryKey e (draftsOf work order n) ≡ draftsOf work order n
-  pub same-work : work′ ≡ work
-  pub same-order : order′ ≡ order
+pub record There (other : Bool) (work : List ℕ) (e : Entry) (work′ : List ℕ) : Type 0 where
+  pub clash : clashes e (draftsOf work) ≡ other
+  pub is : put entryKey e (draftsOf work) ≡ draftsOf work
+  pub same : work′ ≡ work
 
-pub record Placed (work order : List ℕ) (n : ℕ) (e : Entry) (work′ order′ : List ℕ) : Type 0 where
-  pub clash : clashes e (draftsOf work order n) ≡ false
-  pub is : draftsOf work′ order′ (n + 1) ≡ put entryKey e (draftsOf work order n)
-  pub drafts : Drafts work′ order′ (n + 1)
+pub record Placed (work : List ℕ) (e : Entry) (work′ : List ℕ) : Type 0 where
+  pub clash : clashes e (draftsOf work) ≡ false
+  pub is : draftsOf work′ ≡ put entryKey e (draftsOf work)
+  pub drafts : Drafted work′
 
-pub record NoSlot (work order : List ℕ) (n : ℕ) (e : Entry) (work′ order′ : List ℕ) : Type 0 where
-  pub clash : clashes e (draftsOf work order n) ≡ false
-  pub full : n ≡ linksCap
-  pub long : length (put entryKey e (draftsOf work order n)) ≡ linksCap + 1
-  pub same-work : work′ ≡ work
-  pub same-order : order′ ≡ order
+pub record NoSlot (work : List ℕ) (e : Entry) (work′ : List ℕ) : Type 0 where
+  pub clash : clashes e (draftsOf work) ≡ false
+  pub long : length (put entryKey e (draftsOf work)) ≡ linksCap + 1
 
-abbrev pub Became : Keeping → List ℕ → List ℕ → ℕ → Entry → List ℕ → List ℕ → Type 0
+abbrev pub Became : Keeping → List ℕ → Entry → List ℕ → Type 0
 Became Same = There false
 Became Other = There true
 Became New = Placed
 Became Full = NoSlot
 
--- that, of the entry with a piece and the link of a number
-pub record PutIn (work order : List ℕ) (n key : ℕ) (piece : Word) (r : Keeping) (work′ order′ : List ℕ) : Type 0 where
-  pub became : (l : Link) → Plain l → linkNo l ≡ key → Became r work order n (entry l piece) work′ order′
+-- that, as a record whose arguments are found
+pub record PutIn (work : List ℕ) (e : Entry) (r : Keeping) (work′ : List ℕ) : Type 0 where
+  pub became : Became r work e work′
 
--- the first `n` of the drafts
-pub record Reads (work order : List ℕ) (n : ℕ) : Type 0 where
-  pub all : ℕ
-  pub within : n ≤ all
-  pub drafts : Drafts work order all
+-- a draft from a place on has this foot
+abbrev pub Footed : List ℕ → ℕ → ℕ → Type 0
+Footed work from seat = (i : ℕ) × (from ≤ i) × (i < linksCap) × (footAt work i ≡ seat)
 
--- a slot has a piece
-pub record Holds (work : List ℕ) (s : ℕ) : Type 0 where
-  pub whole : length work ≡ workSize
-  pub within : s < linksCap
-  pub short : lengthIn work s ≤ draftRoom
+-- a link of a session is below a depth, and a draft stands on it
+abbrev pub Stays : List ℕ → ℕ → ℕ → List ℕ → ℕ → Type 0
+Stays session i d work from = (linkAt session i .level < d) × Footed work from (seatAt session i)
 
--- what a draft stands on, as a number; and a test for the drafted links with one foot
-abbrev pub footOf : List ℕ → List ℕ → ℕ → ℕ
-footOf work order i = footFrom work (slotStart (slotOf order i))
+-- all links of a list are at one level; the levels of drafts rise, and those of a session's links
+abbrev pub AllAt : ℕ → List Entry → Type 0
+AllAt d E = (e : Entry) → e among E → e .link .level ≡ d
 
-abbrev pub seatOf : List ℕ → List ℕ → ℕ → ℕ
-seatOf work order i = seatFrom work (slotStart (slotOf order i))
+abbrev pub LevelsRise : List ℕ → ℕ → ℕ → Type 0
+LevelsRise bytes from to =
+    (j k : ℕ) → from ≤ j → j ≤ k → k < to → linkAt bytes j .level ≤ linkAt bytes k .level
 
--- those of the first `n` drafts with one foot stand between the ends of two levels; none of them before a place has it
-pub record OneLevel (work order : List ℕ) (n : ℕ) (ends : List ℕ) (foot : ℕ) : Type 0 where
-  pub low : levelOf foot < 34
-  pub within : startOf ends (levelOf foot) ≤ n
-  pub after : (k : ℕ) → k < n → footOf work order k ≡ foot → startOf ends (levelOf foot + 1) ≤ k
-  pub before : (k : ℕ) → k < n → footOf work order k ≡ foot → k < startOf ends (levelOf foot)
+-- an entry was drafted right before the others
+pub record OneMore (e : Entry) (work : List ℕ) (from : ℕ) (work′ : List ℕ) : Type 0 where
+  pub drafts : Drafts work′ (from - 1) linksCap
+  pub are : draftsIn work′ (from - 1) linksCap ≡ e ∷ draftsIn work from linksCap
+  pub levels : (k : ℕ) → from ≤ k → k < linksCap → linkAt work′ k ≡ linkAt work k
+  pub here : linkAt work′ (from - 1) ≡ e .link
 
-abbrev pub NoFoot : List ℕ → List ℕ → ℕ → ℕ → ℕ → Type 0
-NoFoot work order from n foot = (k : ℕ) → k < from → k < n → footOf work order k ≡ foot → ⊥
+-- of the lower entries of a session and those over them, what is left once shaken
+abbrev pub shakenOver : List ℕ → ℕ → List Entry → List Entry
+shakenOver session d E = shake d (lower d (sessionOf session .entries) ++ E)
 
-abbrev pub PicksFoot : List ℕ → List ℕ → ℕ → ℕ → (Link → Bool) → Type 0
-PicksFoot work order n foot test =
-    (i : ℕ) → i < n → test (draftIn work (slotOf order i) .link) ≡ eqb (footOf work order i) foot
+-- what shaking answers of what is left: it is drafted, or has more than there are slots for
+pub record ShakenTo (E : List Entry) (r : Bool) (work : List ℕ) : Type 0 where
+  pub drafted : r ≡ true → Drafted work × (draftsOf work ≡ E)
+  pub full : r ≡ false → linksCap < length E
 
--- the first of the drafts with one foot, `n` where there is none
-pub record FirstOn (work order : List ℕ) (n foot r : ℕ) : Type 0 where
-  pub within : r ≤ n
-  pub before : (k : ℕ) → k < r → footOf work order k ≡ foot → ⊥
-  pub found : r < n → footOf work order r ≡ foot
+-- a test for the drafted links with one foot
+abbrev pub PicksFoot : List ℕ → ℕ → (Link → Bool) → Type 0
+PicksFoot work foot test = (i : ℕ) → i < countOf work → test (linkAt work i) ≡ eqb (footAt work i) foot
 
--- how much is left of `long` bytes of the piece in slot `t`, where the draft in slot `s` has the foot
-unfoldable pub narrowedTo : List ℕ → ℕ → ℕ → ℕ → ℕ → ℕ
-narrowedTo work s foot t long =
-    cond (eqb (footFrom work (slotStart s)) foot) (length (shared (pieceIn work s) (take long (pieceIn work t)))) long
+-- what the pieces of the drafts with one foot have in common: so many bytes from a place on, where one of them starts
+pub record CommonOn (work : List ℕ) (foot at long : ℕ) : Type 0 where
+  pub place : 0 < long → (i : ℕ) × (i < countOf work) × (whereAt work i ≡ at) × (footAt work i ≡ foot)
+  pub short : long ≤ draftRoom
+  pub lies : at + long ≤ workSize
+  pub is : (test : Link → Bool) → PicksFoot work foot test
+      → common (piecesOn test (draftsOf work)) ≡ take long (drop at work)
 
--- what the pieces of the drafts with one foot have in common is a beginning of the piece in a slot, which is that of a
--- draft
-pub record CommonOn (work order : List ℕ) (n foot slot long : ℕ) : Type 0 where
-  pub place : 0 < n → (i : ℕ) × (i < n) × (slotOf order i ≡ slot)
-  pub some : 0 < long → 0 < n
-  pub short : long ≤ lengthIn work slot
-  pub is : (test : Link → Bool) → PicksFoot work order n foot test
-      → common (piecesOn test (draftsOf work order n)) ≡ take long (pieceIn work slot)
-
--- what the drafts before draft `i` that stand on its pair have in common
-abbrev pub aboveOf : List ℕ → List ℕ → ℕ → Word
-aboveOf work order i = base (draftsOf work order i) (seat (draftIn work (slotOf order i) .link))
-
--- draft `i` got that at its end, and the others are as they were
-pub record PushedOne (work order : List ℕ) (i : ℕ) (work′ : List ℕ) : Type 0 where
-  pub drafts : (n : ℕ) → Drafts work order n → i < n → Drafts work′ order n
-  pub link : draftIn work′ (slotOf order i) .link ≡ draftIn work (slotOf order i) .link
-  pub piece : pieceIn work′ (slotOf order i) ≡ pieceIn work (slotOf order i) ++ aboveOf work order i
-  pub others : (n j : ℕ) → Drafts work order n → i < n → j < n → (j ≡ i → ⊥)
-      → draftIn work′ (slotOf order j) ≡ draftIn work (slotOf order j)
+-- how many of `long` bytes from a place on a draft's piece begins with, where it has the foot
+pub record Narrowed (work : List ℕ) (i foot at long r : ℕ) : Type 0 where
+  pub past : (footAt work i ≡ foot → ⊥) → r ≡ long
+  pub met : footAt work i ≡ foot → r ≡ length (shared (pieceIn work i) (take long (drop at work)))
 
 -- every piece has room in a slot
 abbrev pub Short : List Entry → Type 0
 Short E = (e : Entry) → e among E → length (e .piece) ≤ draftRoom
 
+-- what settling asks of drafts: they rise and are no higher than 32, each above level 0 stands on one, at level 0 there
+-- is no marker, and what they grow to has room
+pub record Ready (work : List ℕ) : Type 0 where
+  pub drafts : Drafted work
+  pub rise : RisesByLink (draftsOf work)
+  pub low : (i : ℕ) → i < countOf work → linkAt work i .level ≤ 32
+  pub rooted : (i : ℕ) → i < countOf work → RootedAt work i
+  pub plain : (i : ℕ) → i < countOf work → linkAt work i .level ≡ 0 → linkAt work i .here .marker ≡ 0
+  pub short : Short (push (draftsOf work))
+
+-- links, depth and count are as they were
+pub record SameLinks (work work′ : List ℕ) : Type 0 where
+  pub whole : length work′ ≡ length work
+  pub small : Bytes work → Bytes work′
+  pub links : (k : ℕ) → k < 322 → byte work′ k ≡ byte work k
+
+-- what the drafts from a place on that stand on draft `i` have in common
+abbrev pub aboveOf : List ℕ → ℕ → Word
+aboveOf work i = base (draftsIn work (i + 1) (countOf work)) (seat (linkAt work i))
+
+-- draft `i` got that at its end, and it is kept how much that is
+pub record PushedOne (work : List ℕ) (i : ℕ) (work′ : List ℕ) : Type 0 where
+  pub drafts : Drafted work′
+  pub links : SameLinks work work′
+  pub piece : pieceIn work′ i ≡ pieceIn work i ++ aboveOf work i
+  pub others : (j : ℕ) → j < countOf work → (j ≡ i → ⊥) → pieceIn work′ j ≡ pieceIn work j
+  pub handed : handedAt work′ i ≡ length (aboveOf work i)
+  pub kept : (j : ℕ) → j < countOf work → (j ≡ i → ⊥) → handedAt work′ j ≡ handedAt work j
+
 -- all drafts were pushed, and it is kept by how much
-pub record Pushed (work order : List ℕ) (n : ℕ) (work′ handed : List ℕ) : Type 0 where
-  pub drafts : Drafts work′ order n
-  pub are : draftsOf work′ order n ≡ push (draftsOf work order n)
-  pub each : (i : ℕ) → i < n → getD handed i 0 ≡ length (aboveOf work′ order i)
+pub record Pushed (work work′ : List ℕ) : Type 0 where
+  pub drafts : Drafted work′
+  pub links : SameLinks work work′
+  pub are : draftsOf work′ ≡ push (draftsOf work)
+  pub each : (i : ℕ) → i < countOf work → handedAt work′ i ≡ length (aboveOf work′ i)
+
+-- by how much draft `i` is cut
+abbrev pub besideOf : List ℕ → ℕ → Word
+besideOf work i = base (draftsOf work) (foot (linkAt work i))
+
+-- what cutting asks: drafts, how much each handed down and how much is sent, and each above level 0 on one
+pub record Cutting (work : List ℕ) (out : ℕ) : Type 0 where
+  pub drafts : Drafted work
+  pub each : (i : ℕ) → i < countOf work → handedAt work i ≡ length (aboveOf work i)
+  pub sent : out ≡ length (base (draftsOf work) (0 ∷ []))
+  pub rooted : (i : ℕ) → i < countOf work → RootedAt work i
+
+-- as much as the draft below handed down, or as is sent where there is none
+pub record CutBy (work : List ℕ) (sent i r : ℕ) : Type 0 where
+  pub is : ((r ≡ sent) × ((j : ℕ) → j < countOf work → seatAt work j ≡ footAt work i → ⊥))
+      ⊎ ((j : ℕ) × (j < countOf work) × (seatAt work j ≡ footAt work i) × (r ≡ handedAt work j))
+
+-- a draft lost so many bytes in front, and all else is as it was
+pub record CutOne (work : List ℕ) (i many : ℕ) (work′ : List ℕ) : Type 0 where
+  pub links : SameLinks work work′
+  pub slots : (k : ℕ) → handedStart 0 ≤ k → byte work′ k ≡ byte work k
+  pub long : lengthAt work′ i ≡ lengthAt work i - many
+  pub start : whereAt work′ i ≡ whereAt work i + many
+  pub others : (j : ℕ) → j < linksCap → (j ≡ i → ⊥)
+      → (lengthAt work′ j ≡ lengthAt work j) × (whereAt work′ j ≡ whereAt work j)
+
+-- of the first drafts those bytes are left out in front; slots and links are as they were
+pub record CutTo (work : List ℕ) (n : ℕ) (work′ : List ℕ) : Type 0 where
+  pub links : SameLinks work work′
+  pub slots : (k : ℕ) → handedStart 0 ≤ k → byte work′ k ≡ byte work k
+  pub done : (i : ℕ) → i < n
+      → (lengthAt work′ i ≡ lengthAt work i - length (besideOf work i))
+      × (whereAt work′ i ≡ whereAt work i + length (besideOf work i))
+  pub left : (i : ℕ) → n ≤ i → i < countOf work
+      → (lengthAt work′ i ≡ lengthAt work i) × (whereAt work′ i ≡ whereAt work i)
+
+-- what settling leaves and answers: the drafts settled, each in the room; what is sent, as a part of the room; the
+-- longest output that then waits
+pub record SettledTo (work : List ℕ) (r : Settled) (work′ : List ℕ) : Type 0 where
+  pub whole : length work′ ≡ workSize
+  pub small : Bytes work′
+  pub count : countOf work′ ≡ countOf work
+  pub are : draftsOf work′ ≡ cut (push (draftsOf work))
+  pub below : (i : ℕ) → i < countOf work → NoneBelow work′ (linkStart i)
+  pub lies : (i : ℕ) → i < countOf work → Lies work′ i
+  pub part : r .at + r .length ≤ workSize
+  pub sent : take (r .length) (drop (r .at) work′) ≡ base (push (draftsOf work)) (0 ∷ [])
+  pub longest : r .longest ≡ longest (cut (push (draftsOf work)))

@@ -1,7 +1,16 @@
-// The drafts of a step: links with pieces in lent slots, put at their places, shaken, settled and measured.
-pub mod cutting;
-mod five;
-pub mod keeping;
-pub mod lower;
-pub mod settling;
-pub mod slots;
+// The drafts of a step, in a lent room that begins as a session does: links with pieces, each put once at its place,
+// shaken, and settled. What else the room holds is nobody's business.
+mod keeping;
+mod moving;
+mod room;
+mod settling;
+mod shaking;
+
+pub use keeping::Keeping;
+pub use keeping::put;
+pub use room::WORK;
+pub use room::clear;
+pub use room::piece;
+pub use settling::Settled;
+pub use settling::settle;
+pub use shaking::shake;

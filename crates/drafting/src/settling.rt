@@ -1,124 +1,166 @@
 // Settling drafts: pieces get what those above have in common, and are then cut by what is beside them in common.
-use crate::slots;
-use crate::slots::WORK;
+use crate::room;
+use crate::room::WORK;
+use links::levels;
 use links::levels::LEVELS;
-use links::levels::start;
+use links::levels::PAIRS;
 use words::common_length;
 ghost use mathlib.Core.Path.{_≡_};
 ghost use Prim.Native.Nat.{_+_, _≤_, _<_};
-ghost use mathlib.Core.List.{_++_};
-ghost use lib.ListN.{length, set};
+ghost use mathlib.Core.Logic.{_⊎_};
+ghost use lib.ListN.{length, take, drop};
+ghost use Rattle.standing.specs.Bytes.{countOf, lengthAt};
+ghost use Rattle.standing.specs.Numbers.{levelOf, Levelled};
 ghost use Rattle.stepping.specs.Stepping.{push as pushOf};
-ghost use Rattle.drafting.specs.Drafts.{draftRoom, lengthIn, pieceIn, slotOf, draftsOf, Drafts, Reads, Holds};
-ghost use Rattle.drafting.specs.Drafts.{FirstOn, CommonOn, narrowedTo, aboveOf, PushedOne, Short, Pushed};
-ghost use Rattle.drafting.specs.Drafts.{seatOf, Ranked, OneLevel, NoFoot};
+ghost use Rattle.drafting.specs.Drafts.{draftRoom, workSize, pieceIn, draftsOf, Drafted, CommonOn};
+ghost use Rattle.drafting.specs.Drafts.{aboveOf, Lies, PushedOne, Pushed, Short, Cutting, CutBy};
+ghost use Rattle.drafting.specs.Drafts.{Written, Narrowed, CutOne, CutTo, Ready, SettledTo};
 
-// What pieces have in common: so many bytes that the piece in one slot begins with.
+// What pieces have in common: so many bytes of the room, from a place on.
 pub struct Common {
-    pub slot: usize,
+    pub at: usize,
     pub length: usize,
 }
 
-// The first of the drafts with this foot, where none before a place has it; n where there is none.
-fn first_on(work: &[u8; WORK], order: &[u8; 64], from: usize, n: usize, foot: usize) -> usize
-    requires { ⌜ Reads (now work) (now order) n × NoFoot (now work) (now order) from n foot ⌝ }
-    ensures { λ r. ⌜ FirstOn (now (work .entry)) (now (order .entry)) n foot r ⌝ }
-{
-    let mut i = from;
-    while i < n {
-        if slots::foot(work, slots::slot(order, i)) == foot {
-            return i;
-        }
-        i += 1;
-    }
-    n
+// What is to be sent, as a part of the room, and how long the longest output is that then waits.
+pub struct Settled {
+    pub at: usize,
+    pub length: usize,
+    pub longest: usize,
 }
 
-// How much of a beginning of the piece in slot t the piece in slot s has too, where it has the foot.
-fn narrowed(work: &[u8; WORK], s: usize, foot: usize, t: usize, length: usize) -> usize
-    requires { ⌜ Holds (now work) s × Holds (now work) t × (length ≤ lengthIn (now work) t) ⌝ }
-    ensures { λ r. ⌜ r ≡ narrowedTo (now (work .entry)) s foot t length ⌝ }
+// How many of the bytes from a place on the piece of a draft begins with, where it has the foot.
+fn narrowed(work: &[u8; WORK], i: usize, foot: usize, at: usize, long: usize) -> usize
+    requires { ⌜ (i < 64) × Lies (now work) i × (at + long ≤ workSize) ⌝ }
+    ensures { λ r. ⌜ Narrowed (now (work .entry)) i foot at long r ⌝ }
 {
-    if slots::foot(work, s) != foot {
-        return length;
+    if links::foot(&work[..], i) != foot {
+        return long;
     }
-    let so_far = slots::piece(work, t);
-    common_length(slots::piece(work, s), &so_far[0..length])
+    let end = at + long;
+    let all = &work[..];
+    common_length(room::piece(work, i), &all[at..end])
 }
 
 // What the pieces of the drafts with this foot, which are of one level, have in common.
-pub fn common_on(
-    work: &[u8; WORK],
-    order: &[u8; 64],
-    n: usize,
-    ends: &[u8; LEVELS],
-    foot: usize,
-) -> Common
-    requires { ⌜ Reads (now work) (now order) n × OneLevel (now work) (now order) n (now ends) foot ⌝ }
-    ensures { λ r. ⌜ CommonOn (now (work .entry)) (now (order .entry)) n foot (r .slot) (r .length) ⌝ }
+fn common_on(work: &[u8; WORK], starts: &[u8; LEVELS], foot: usize) -> Common
+    requires { ⌜ Drafted (now work) × Levelled (now work) (now starts) × (levelOf foot < 34) ⌝ }
+    ensures { λ r. ⌜ CommonOn (now (work .entry)) foot (r .at) (r .length) ⌝ }
 {
-    let level = foot / 65536;
-    let end = start(ends, level);
-    let first = first_on(work, order, start(ends, level + 1), end, foot);
-    if first == end {
-        return Common {
-            slot: slots::slot(order, 0),
-            length: 0,
-        };
+    let first = levels::first_on(&work[..], starts, foot);
+    if first == links::count(&work[..]) {
+        return Common { at: 0, length: 0 };
     }
-    let slot = slots::slot(order, first);
-    let mut length = slots::length(work, slot);
+    let end = levels::start(starts, foot / PAIRS + 1);
+    let at = room::start(work, first);
+    let mut length = links::long(&work[..], first);
     let mut i = first + 1;
     while i < end {
-        length = narrowed(work, slots::slot(order, i), foot, slot, length);
+        length = narrowed(work, i, foot, at, length);
         i += 1;
     }
-    Common { slot, length }
+    Common { at, length }
+}
+
+// So many bytes from one place to another, where the two places share none.
+fn copy_within(work: &mut [u8], from: usize, at: usize, many: usize)
+    requires { ⌜ (from + many ≤ length (now work)) × (at + many ≤ length (now work)) ⌝ }
+    requires { ⌜ (from + many ≤ at) ⊎ (at + many ≤ from) ⌝ }
+    ensures { λ _. ⌜ Written (now (work .entry)) at (take many (drop from (now (work .entry)))) (now (work .exit)) ⌝ }
+{
+    let mut i: usize = 0;
+    while i < many {
+        work[at + i] = work[from + i];
+        i += 1;
+    }
 }
 
 // Puts at the end of a piece what the pieces that stand on its pair have in common, and keeps how much that is.
-fn push_one(
-    work: &mut [u8; WORK],
-    order: &[u8; 64],
-    ends: &[u8; LEVELS],
-    i: usize,
-    handed: &mut [usize; 64],
-)
-    requires { ⌜ Reads (now work) (now order) (i + 1) ⌝ }
-    requires { ⌜ OneLevel (now work) (now order) i (now ends) (seatOf (now work) (now order) i) ⌝ }
-    requires { ⌜ length (pieceIn (now work) (slotOf (now order) i) ++ aboveOf (now work) (now order) i) ≤ draftRoom ⌝ }
-    ensures { λ _. ⌜ PushedOne (now (work .entry)) (now (order .entry)) i (now (work .exit)) ⌝ }
-    ensures { λ _. ⌜
-        (now (handed .exit)
-        ≡ set (now (handed .entry)) i (length (aboveOf (now (work .entry)) (now (order .entry)) i)))
-        × (i < length (now (handed .entry))) ⌝ }
+fn push_one(work: &mut [u8; WORK], starts: &[u8; LEVELS], i: usize)
+    requires { ⌜ Drafted (now work) × Levelled (now work) (now starts) × (i < countOf (now work)) ⌝ }
+    requires { ⌜ length (pieceIn (now work) i) + length (aboveOf (now work) i) ≤ draftRoom ⌝ }
+    ensures { λ _. ⌜ PushedOne (now (work .entry)) i (now (work .exit)) ⌝ }
 {
-    let s = slots::slot(order, i);
-    let above = common_on(work, order, i, ends, slots::seat(work, s));
+    let seat = links::seat(&work[..], i);
+    let above = common_on(work, starts, seat);
+    let from = above.at;
     let many = above.length;
-    if 0 < many {
-        slots::append(work, s, above.slot, many);
-    }
-    let all = &mut handed[..];
-    all[i] = many;
+    let long = links::long(&work[..], i);
+    let end = room::start(work, i) + long;
+    copy_within(&mut work[..], from, end, many);
+    links::set_length(&mut work[..], i, long + many);
+    room::set_handed(work, i, many);
 }
 
-// Each piece gets at its end what the pieces that stand on its pair have in common; `handed` keeps how much that is.
-pub fn push(
-    work: &mut [u8; WORK],
-    order: &[u8; 64],
-    n: usize,
-    ends: &[u8; LEVELS],
-    handed: &mut [usize; 64],
-)
-    requires { ⌜ Drafts (now work) (now order) n × Short (pushOf (draftsOf (now work) (now order) n)) ⌝ }
-    requires { ⌜ Ranked (now work) (now order) n (now ends) ⌝ }
-    ensures { λ _. ⌜ Pushed (now (work .entry)) (now (order .entry)) n (now (work .exit)) (now (handed .exit)) ⌝ }
-    ensures { λ _. ⌜ Ranked (now (work .exit)) (now (order .entry)) n (now (ends .entry)) ⌝ }
+// Each piece gets at its end what the pieces that stand on its pair have in common.
+fn push(work: &mut [u8; WORK], starts: &[u8; LEVELS])
+    requires { ⌜ Drafted (now work) × Levelled (now work) (now starts) × Short (pushOf (draftsOf (now work))) ⌝ }
+    ensures { λ _. ⌜ Pushed (now (work .entry)) (now (work .exit)) ⌝ }
 {
-    let mut i = 0;
+    let mut i = links::count(&work[..]);
+    while 0 < i {
+        i -= 1;
+        push_one(work, starts, i);
+    }
+}
+
+// By how much a draft is cut: as much as the one it stands on handed down, or as is sent where it stands on none.
+fn cut_by(work: &[u8; WORK], starts: &[u8; LEVELS], sent: usize, i: usize) -> usize
+    requires { ⌜ Levelled (now work) (now starts) × (i < countOf (now work)) ⌝ }
+    ensures { λ r. ⌜ CutBy (now (work .entry)) sent i r ⌝ }
+{
+    let foot = links::foot(&work[..], i);
+    if foot == 0 {
+        return sent;
+    }
+    let below = levels::first_with(&work[..], starts, foot);
+    if below == links::count(&work[..]) {
+        return sent;
+    }
+    room::handed(work, below)
+}
+
+// A draft without so many bytes in front.
+fn cut_one(work: &mut [u8; WORK], i: usize, many: usize)
+    requires { ⌜ (i < 64) × (many ≤ lengthAt (now work) i) × Lies (now work) i ⌝ }
+    ensures { λ _. ⌜ CutOne (now (work .entry)) i many (now (work .exit)) ⌝ }
+{
+    let long = links::long(&work[..], i);
+    let at = room::start(work, i);
+    links::set_length(&mut work[..], i, long - many);
+    room::set_start(work, i, at + many);
+}
+
+// Each draft loses what it and those beside it have in common.
+fn cut(work: &mut [u8; WORK], starts: &[u8; LEVELS], sent: usize)
+    requires { ⌜ Cutting (now work) sent × Levelled (now work) (now starts) ⌝ }
+    ensures { λ _. ⌜ CutTo (now (work .entry)) (countOf (now (work .entry))) (now (work .exit)) ⌝ }
+{
+    let n = links::count(&work[..]);
+    let mut i: usize = 0;
     while i < n {
-        push_one(work, order, ends, i, handed);
+        let many = cut_by(work, starts, sent, i);
+        cut_one(work, i, many);
         i += 1;
+    }
+}
+
+// All of it.
+pub fn settle(work: &mut [u8; WORK]) -> Settled
+    requires { ⌜ Ready (now work) ⌝ }
+    ensures { λ r. ⌜ SettledTo (now (work .entry)) r (now (work .exit)) ⌝ }
+{
+    let mut starts = [0u8; LEVELS];
+    levels::find(&work[..], &mut starts);
+    push(work, &starts);
+    let sent = common_on(work, &starts, 0);
+    let at = sent.at;
+    let length = sent.length;
+    cut(work, &starts, length);
+    let longest = links::weigh::longest(&work[..], &starts);
+    Settled {
+        at,
+        length,
+        longest,
     }
 }

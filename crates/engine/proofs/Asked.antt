@@ -22,25 +22,26 @@ use Rattle.table.proofs.Stands.{good-table}
 use Rattle.standing.specs.Sessions.{Entry, Session}
 use Rattle.standing.specs.Bytes.{countOf, linkAt, entryAt, sessionOf}
 use Rattle.stepping.specs.Stepping.{grow, keep, kept, shaken}
-use Rattle.drafting.specs.Drafts.{draftRoom, slotOf, draftIn, draftsOf, Drafts, Plain, AllAt, shakenOver}
+use Rattle.drafting.specs.Drafts.{draftRoom, draftIn, draftsOf, Drafted, Plain, AllAt, shakenOver}
 use Rattle.growing.specs.Growing.{Gathered, Usable, Fitting}
-use Rattle.stepping.specs.Promises.{Proper, Stepped}
+use Rattle.stepping.specs.Promises.{Stepped}
+use Rattle.ending.specs.Finishing.{Ready}
 use Rattle.engine.specs.Tests.{Opened, Grew, Left}
 use Rattle.engine.proofs.Tested.{open-call, open-return, open-internal, unknown, unopened, too-deep, Moves}
 use Rattle.engine.proofs.Tested.{Fits, no-run, crowded, conflicting}
-use Rattle.drafting.proofs.Drafted.{length-stacked}
+use Rattle.drafting.proofs.Listed.{length-all}
 use Rattle.stepping.proofs.Keep.{keep-among, keep-linked}
 use Rattle.stepping.proofs.Grow.{grow-level}
 use Rattle.stepping.proofs.Shake.{kept-fewer}
 use Rattle.stepping.proofs.Bounds.{deeper-within, grow-small, grow-short}
 use Rattle.stepping.proofs.Told.{told-refused}
 
-module _ {file session : List ℕ} (proper : Proper file session) (symbol : ℕ) where
+module _ {file session : List ℕ} (ready : Ready file session) (symbol : ℕ) where
   -- by class, with the depth as it was read
   pub asked-unused : (out : List ℕ) → tableOf file .class symbol ≡ unused
       → Stepped file session symbol out 3 0 session out
   asked-unused out k =
-      told-refused file session symbol out (proper .good) (proper .sound)
+      told-refused file session symbol out (ready .good) (ready .sound)
       (unknown (tableOf file) (sessionOf session) symbol (length out) k) (λ z. omega arith)
 
   module _ (depth : ℕ) (is : depth ≡ byte session 0) where
@@ -48,76 +49,76 @@ module _ {file session : List ℕ} (proper : Proper file session) (symbol : ℕ)
         → Stepped file session symbol out 5 0 session out
     asked-deep out k e =
         let d : sessionOf session .depth ≡ tableOf file .depthCap = omega arith in
-        told-refused file session symbol out (proper .good) (proper .sound)
+        told-refused file session symbol out (ready .good) (ready .sound)
         (too-deep (tableOf file) (sessionOf session) symbol (length out) k d) (λ z. omega arith)
 
     pub asked-closed : (out : List ℕ) → tableOf file .class symbol ≡ return → depth ≡ 0
         → Stepped file session symbol out 4 0 session out
     asked-closed out k e =
         let d : sessionOf session .depth ≡ 0 = omega arith in
-        told-refused file session symbol out (proper .good) (proper .sound)
+        told-refused file session symbol out (ready .good) (ready .sound)
         (unopened (tableOf file) (sessionOf session) symbol (length out) k d) (λ z. omega arith)
 
     pub opened-call : tableOf file .class symbol ≡ call → (depth ≡ tableOf file .depthCap → ⊥)
         → Opened file session symbol (depth + 1)
     opened-call k n =
         let o = open-call (tableOf file) (sessionOf session) symbol k (λ e. n (omega arith)) in
-        record { proper = proper; to = o; is = rw k (omega arith) }
+        record { ready = ready; to = o; is = rw k (omega arith) }
 
     pub opened-return : tableOf file .class symbol ≡ return → (depth ≡ 0 → ⊥) → Opened file session symbol (depth - 1)
     opened-return k n =
         let o = open-return (tableOf file) (sessionOf session) symbol k (λ e. n (omega arith)) in
-        record { proper = proper; to = o; is = rw k (omega arith) }
+        record { ready = ready; to = o; is = rw k (omega arith) }
 
     pub opened-internal : tableOf file .class symbol ≡ internal → Opened file session symbol depth
     opened-internal k =
         let o = open-internal (tableOf file) (sessionOf session) symbol k in
-        record { proper = proper; to = o; is = rw k (omega arith) }
+        record { ready = ready; to = o; is = rw k (omega arith) }
 
-module _ {file session work order : List ℕ} {symbol depth count : ℕ} {clash : Bool}
-    (g : Grew file session symbol depth work order count clash) where
+module _ {file session work : List ℕ} {symbol depth : ℕ} {clash : Bool}
+    (g : Grew file session symbol depth work clash) where
   abbrev T : Table
   T = tableOf file
 
   abbrev S : Session
   S = sessionOf session
 
-  abbrev proper : Proper file session
-  proper = g .opened .proper
+  abbrev ready : Ready file session
+  ready = g .opened .ready
 
   -- all that follows is at the new depth
-  pub grew-level : AllAt depth (draftsOf work order count)
+  pub grew-level : AllAt depth (draftsOf work)
   grew-level e m =
       let k = keep-among (grow T S symbol) (subst (λ (E : List Entry). e among E) (g .are) m) in
       grow-level T S symbol e k ∙ sym (g .opened .is)
 
   -- what shaking is asked to draft
-  over-is : shakenOver session depth (draftsOf work order count) ≡ shaken (kept T S symbol) .entries
+  over-is : shakenOver session depth (draftsOf work) ≡ shaken (kept T S symbol) .entries
   over-is = rw (g .are, g .opened .is)
 
   moves : Moves T S symbol
   moves = record { open-to = g .opened .to; some = g .some }
 
-  pub grew-crowded : (out : List ℕ) → linksCap < length (shakenOver session depth (draftsOf work order count))
+  pub grew-crowded : (out : List ℕ) → linksCap < length (shakenOver session depth (draftsOf work))
       → Stepped file session symbol out 7 0 session out
   grew-crowded out l =
       let n = crowded T S symbol (length out) moves (rw over-is at l) in
-      told-refused file session symbol out (proper .good) (proper .sound) n (λ z. omega arith)
+      told-refused file session symbol out (ready .good) (ready .sound) n (λ z. omega arith)
 
-  module _ {work′ order′ : List ℕ} {n : ℕ} (drafts : Drafts work′ order′ n)
-      (are : draftsOf work′ order′ n ≡ shakenOver session depth (draftsOf work order count)) where
+  module _ {work′ : List ℕ} (drafts : Drafted work′)
+      (are : draftsOf work′ ≡ shakenOver session depth (draftsOf work)) where
     fits : Fits T S symbol
     fits =
         let e = ap length (sym (are ∙ over-is)) in
-        let n = length-stacked (λ i. draftIn work′ (slotOf order′ i)) n in
+        let n = length-all (draftIn work′) (countOf work′) in
         record { moves = moves; few = omega (arith, drafts .few) }
 
     pub grew-conflict : (out : List ℕ) → clash ≡ true → Stepped file session symbol out 8 0 session out
     grew-conflict out c =
-        told-refused file session symbol out (proper .good) (proper .sound)
+        told-refused file session symbol out (ready .good) (ready .sound)
         (conflicting T S symbol (length out) fits (sym (g .odds) ∙ c)) (λ z. omega arith)
 
-    pub grew-left : clash ≡ false → Left file session symbol depth work′ order′ n
+    pub grew-left : clash ≡ false → Left file session symbol depth work′
     grew-left c =
         record {
           left = record { opened = g .opened; some = g .some; few = fits .few; one = sym (g .odds) ∙ c };
@@ -127,8 +128,8 @@ module _ {file session work order : List ℕ} {symbol depth count : ℕ} {clash 
 
 -- what growing is asked, and what its answers say
 module _ {file session : List ℕ} {symbol depth : ℕ} (o : Opened file session symbol depth) where
-  abbrev R : Proper file session
-  R = o .proper
+  abbrev R : Ready file session
+  R = o .ready
 
   rules : GoodTable edition1 (tableOf file)
   rules = good-table {E = first} (omega arith) file (R .small) (R .good)
@@ -185,9 +186,9 @@ module _ {file session : List ℕ} {symbol depth : ℕ} (o : Opened file session
             omega (arith, grow-short T rules S ok symbol z m),
           )
 
-  module _ {work order : List ℕ} where
-    none-test : {n : ℕ} {c : Bool} → Gathered G work order n c → n ≡ 0 → isEmpty G ≡ true
-    none-test {n} g e = go (isEmpty G) refl
+  module _ {work : List ℕ} where
+    none-test : {c : Bool} → Gathered G work c → countOf work ≡ 0 → isEmpty G ≡ true
+    none-test g e = go (isEmpty G) refl
       where
         go : (b : Bool) → isEmpty G ≡ b → isEmpty G ≡ true
         go true h = h
@@ -199,29 +200,29 @@ module _ {file session : List ℕ} {symbol depth : ℕ} (o : Opened file session
               arith,
               some (keep [] G) (k .1),
               ap length (g .are),
-              length-stacked (λ i. draftIn work (slotOf order i)) n,
+              length-all (draftIn work) (countOf work),
             ))
           where
             some : (E : List Entry) {z : Entry} → z among E → 1 ≤ length E
             some [] m = elim m [ ]
             some (e ∷ E) m = omega arith
 
-    pub opened-none : {n : ℕ} {c : Bool} (out : List ℕ) → Gathered G work order n c → n ≡ 0
+    pub opened-none : {c : Bool} (out : List ℕ) → Gathered G work c → countOf work ≡ 0
         → Stepped file session symbol out 6 0 session out
     opened-none out g e =
         told-refused file session symbol out (R .good) (R .sound)
         (no-run (tableOf file) (sessionOf session) symbol (length out) (o .to) (none-test g e)) (λ z. omega arith)
 
-    some-test : {n : ℕ} {c : Bool} → Gathered G work order n c → 0 < n → isEmpty G ≡ false
-    some-test {n} g p = go G (ap length (g .are)) (length-stacked (λ i. draftIn work (slotOf order i)) n)
+    some-test : {c : Bool} → Gathered G work c → 0 < countOf work → isEmpty G ≡ false
+    some-test g p = go G (ap length (g .are)) (length-all (draftIn work) (countOf work))
       where
-        go : (E : List Entry) → length (draftsOf work order n) ≡ length (keep [] E)
-            → length (draftsOf work order n) ≡ n → isEmpty E ≡ false
+        go : (E : List Entry) → length (draftsOf work) ≡ length (keep [] E)
+            → length (draftsOf work) ≡ countOf work → isEmpty E ≡ false
         go [] a b = absurd (omega arith)
         go (e ∷ E) a b = refl
 
-    pub opened-grew : {n : ℕ} {c : Bool} → Gathered G work order n c → 0 < n
-        → Grew file session symbol depth work order n c
+    pub opened-grew : {c : Bool} → Gathered G work c → 0 < countOf work
+        → Grew file session symbol depth work c
     opened-grew g p =
         record { opened = o; drafts = g .drafts; are = g .are; odds = g .odds; some = some-test g p }
 

@@ -1,13 +1,12 @@
 -- The end of a step: from the drafts of the moved links to what is sent and written. Assumes nothing.
 use mathlib.Core.Path.{_≡_, sym, _∙_, ap, subst}
 use mathlib.Core.Logic.{_⊎_, inl, inr}
-use mathlib.Core.List.{List, [], _∷_, _++_, append-nil}
-use Prim.Native.Nat.{ℕ, _-_, _<_, _≤_}
+use mathlib.Core.List.{List, [], _∷_, _++_}
+use Prim.Native.Nat.{ℕ, _<_, _≤_}
 use native.Mathlib.Omega.{arith}
-use lib.ListN.{length, getD, take, drop, length-take, length-drop}
+use lib.ListN.{length, take, drop}
 use Rattle.words.specs.Lists.{_among_}
 use Rattle.words.specs.Words.{Word}
-use Rattle.words.proofs.Lists.{first-of}
 use Rattle.meaning.specs.Table.{Table, Good as GoodTable, edition1}
 use Rattle.meaning.specs.Trails.{ground, Link, on, linkOf}
 use Rattle.table.specs.File.{tableOf}
@@ -15,25 +14,24 @@ use Rattle.table.specs.Good.{first}
 use Rattle.table.proofs.Stands.{good-table}
 use Rattle.standing.specs.Sessions.{Entry, entry, Session, Ranges, RisesByLink, Sound}
 use Rattle.standing.specs.Soundly.{longest}
-use Rattle.standing.specs.Bytes.{pieceRoom, linkFrom, sessionOf, bytesOf}
-use Rattle.standing.specs.Numbers.{seatFrom, footFrom}
-use Rattle.standing.proofs.Soundly.{lies-rooted}
+use Rattle.standing.specs.Bytes.{linkStart, pieceRoom, countOf, lengthAt, linkAt, sessionOf, bytesOf}
+use Rattle.standing.specs.Numbers.{footAt, RootedAt}
+use Rattle.standing.proofs.Soundly.{Rooted, lies-rooted}
 use Rattle.standing.proofs.RoundTrip.{piece-short}
-use Rattle.stepping.specs.Promises.{Proper, Stepped}
-use Rattle.stepping.specs.Stepping.{seat, grow, keep, kept, shaken, push, base, cut, stepped, sent, linkNumber}
-use Rattle.drafting.specs.Drafts.{slotStart, lengthIn, pieceIn, slotOf, draftIn, draftsOf, footNo, seatNo, Reads}
-use Rattle.drafting.specs.Drafts.{Holds, CommonOn, Short, Pushed}
-use Rattle.drafting.specs.Cutting.{cutDraft, cutDrafts, Handed, CutTo, Weighable}
-use Rattle.engine.specs.Writing.{Cuts, cutSession}
-use Rattle.engine.specs.Tests.{LeftOf, Left, Settled}
+use Rattle.stepping.specs.Promises.{Stepped}
+use Rattle.stepping.specs.Stepping.{grow, keep, kept, shaken, push, base, cut, stepped, sent, linkNumber}
+use Rattle.drafting.specs.Drafts.{whereAt, pieceIn, draftIn, draftsOf, footNo, seatNo, Ready as Settles, SettledTo}
+use Rattle.drafting.specs.declared.settling.Settled.{Settled}
+use Rattle.engine.specs.Writing.{Fits, draftSession}
+use Rattle.ending.specs.Finishing.{Ready}
+use Rattle.engine.specs.Tests.{LeftOf, Left}
 use Rattle.stepping.proofs.Keep.{keep-linked}
 use Rattle.stepping.proofs.Shake.{shaken-rises, shaken-lies, kept-fewer}
-use Rattle.stepping.proofs.Bounds.{deeper-within, shaken-cases, grow-ranges, pushed-short}
-use Rattle.stepping.proofs.Push.{push-in, push-out, push-rises}
-use Rattle.drafting.proofs.Numbers.{foot-from, seat-from}
-use Rattle.drafting.proofs.Drafted.{length-stacked, stacked-in, stacked-out}
-use Rattle.drafting.proofs.Groups.{holds-place, piece-length, common-length, base-bottom}
-use Rattle.drafting.proofs.Beside.{cut-are, cut-enough}
+use Rattle.stepping.proofs.Bounds.{shaken-cases, grow-ranges, pushed-short}
+use Rattle.drafting.proofs.Numbers.{foot-from}
+use Rattle.drafting.proofs.Listed.{part-in, part-out}
+use Rattle.drafting.proofs.Rooms.{piece-length}
+use Rattle.engine.proofs.Asked.{opened-shallow}
 use Rattle.engine.proofs.Tested.{Agrees, Waits, backlog, no-room, taken}
 use Rattle.stepping.proofs.Stepped.{stepped-sound}
 use Rattle.stepping.proofs.Told.{told-refused, told-taken}
@@ -48,14 +46,14 @@ module _ {file session : List ℕ} {symbol depth : ℕ} (l : LeftOf file session
   abbrev H : Session
   H = shaken (kept T S symbol)
 
-  abbrev proper : Proper file session
-  proper = l .opened .proper
+  abbrev ready : Ready file session
+  ready = l .opened .ready
 
   abbrev ok : Sound T S
-  ok = proper .sound .sound
+  ok = ready .sound .sound
 
   rules : GoodTable edition1 T
-  rules = good-table {E = first} (omega arith) file (proper .small) (proper .good)
+  rules = good-table {E = first} (omega arith) file (ready .small) (ready .good)
 
   agrees : Agrees T S symbol
   agrees =
@@ -67,21 +65,6 @@ module _ {file session : List ℕ} {symbol depth : ℕ} (l : LeftOf file session
   rise : RisesByLink (H .entries)
   rise = shaken-rises T S symbol ok
 
-  -- there is a link
-  some-link : 0 < length (H .entries)
-  some-link =
-      let z = first-of (grow T S symbol) (l .some) in
-      let k = keep-linked [] (grow T S symbol) (z .0 .link) (z .0 .piece) (z .1) in
-      omega (
-        arith,
-        kept-fewer T S symbol ok (grow T S symbol) [] (sym (append-nil (grow T S symbol))),
-        at-least (keep [] (grow T S symbol)) (k .1),
-      )
-    where
-      at-least : (E : List Entry) {z : Entry} → z among E → 1 ≤ length E
-      at-least [] m = elim m [ ]
-      at-least (e ∷ E) m = omega arith
-
   ranges : (k : Link) (x : Word) → entry k x among H .entries → Ranges T k
   ranges k x m = go (shaken-cases T S symbol (entry k x) m)
     where
@@ -89,182 +72,129 @@ module _ {file session : List ℕ} {symbol depth : ℕ} (l : LeftOf file session
       go (inl n) = ok .ranges k x n
       go (inr n) = grow-ranges T rules S ok symbol (entry k x) n
 
-module _ {file session work order : List ℕ} {symbol depth n : ℕ} (d : Left file session symbol depth work order n) where
+module _ {file session work : List ℕ} {symbol depth : ℕ} (d : Left file session symbol depth work) where
   abbrev l : LeftOf file session symbol depth
   l = d .left
 
   abbrev E : List Entry
   E = H l .entries
 
-  -- pushed pieces have room
-  pub left-short : Short (push (draftsOf work order n))
-  left-short e m =
-      let k = subst (λ (K : List Entry). e among push K) (d .are) m in
-      omega (arith, pushed-short (T l) (rules l) (S l) (ok l) symbol (l .one) (e .link) (e .piece) k)
+  -- a draft's link is one of those that are left, and the other way round
+  drafted : (i : ℕ) → i < countOf work → draftIn work i among E
+  drafted i lt =
+      subst (λ (K : List Entry). draftIn work i among K) (d .are)
+      (part-in (draftIn work) 0 (countOf work) i (omega arith) lt)
 
-  module _ {work′ handed : List ℕ} (p : Pushed work order n work′ handed) where
-    pub left-reads : Reads work′ order n
-    left-reads = record { all = n; within = omega arith; drafts = p .drafts }
+  lies-on : (i : ℕ) → i < countOf work → Rooted (H l) (linkAt work i)
+  lies-on i lt =
+      lies-rooted (H l) (shaken-lies (T l) (S l) symbol (ok l)) (linkAt work i) (pieceIn work i) (drafted i lt)
 
-    are : draftsOf work′ order n ≡ push E
-    are = p .are ∙ ap push (d .are)
+  foot-of : (i : ℕ) → i < countOf work → footAt work i ≡ footNo (linkAt work i)
+  foot-of i lt = foot-from work (d .drafts .small) (linkStart i) (d .drafts .below i (omega arith) lt)
 
-    some : 0 < n
-    some = omega (arith, some-link l, ap length (d .are), length-stacked (λ i. draftIn work (slotOf order i)) n)
+  rooted : (i : ℕ) → i < countOf work → RootedAt work i
+  rooted i lt = go (lies-on i lt .1)
+    where
+      go : (linkAt work i ≡ linkOf (ground (linkAt work i .here .state)))
+          ⊎ ((f : Entry) × (f among E)
+          × (linkAt work i ≡ on (linkAt work i .here .state) (linkAt work i .here .marker) (f .link)))
+          → RootedAt work i
+      go (inl e) = inl (foot-of i lt ∙ ap footNo e)
+      go (inr f) =
+          let m = subst (λ (K : List Entry). f .0 among K) (sym (d .are)) (f .1) in
+          let o = part-out (draftIn work) 0 (countOf work) m in
+          let k : f .0 .link ≡ linkAt work (o .0) = ap (λ (e : Entry). e .link) (o .3) in
+          let s : seatNo (f .0 .link) ≡ footNo (linkAt work i) =
+          sym (ap footNo (f .2) ∙ (let q = f .0 .link in omega arith)) in
+          inr (o .0, o .2, ap seatNo (sym k) ∙ s ∙ sym (foot-of i lt))
 
-    abbrev at : ℕ → ℕ
-    at i = slotStart (slotOf order i)
+  -- what settling is asked
+  pub left-ready : Settles work
+  left-ready =
+      record {
+        drafts = d .drafts;
+        rise = rw (d .are) (rise l);
+        low = λ i lt.
+            let o = l .opened in
+            omega (arith, lies-on i lt .0, o .is, opened-shallow o);
+        rooted = rooted;
+        plain = λ i lt z. ranges l (linkAt work i) (pieceIn work i) (drafted i lt) .zero .1 z;
+        short = λ e m.
+            let k = subst (λ (K : List Entry). e among push K) (d .are) m in
+            omega (arith, pushed-short (T l) (rules l) (S l) (ok l) symbol (l .one) (e .link) (e .piece) k);
+      }
 
-    abbrev link : ℕ → Link
-    link i = linkFrom work′ (at i)
+  module _ {r : Settled} {work′ : List ℕ} (s : SettledTo work r work′) where
+    are : draftsOf work′ ≡ stepped (T l) (S l) symbol .entries
+    are = s .are ∙ ap (λ (K : List Entry). cut (push K)) (d .are)
 
-    -- a draft's link is one of those that are left
-    drafted : (i : ℕ) → i < n → (x : Word) × (entry (link i) x among E)
-    drafted i lt =
-        let m = stacked-in (λ i. draftIn work′ (slotOf order i)) n i lt in
-        let o = push-out E (rise l) (link i) (pieceIn work′ (slotOf order i))
-        (subst (λ (K : List Entry). draftIn work′ (slotOf order i) among K) are m) in
-        (o .0, o .1)
+    sent-is : take (r .length) (drop (r .at) work′) ≡ sent (T l) (S l) symbol
+    sent-is = s .sent ∙ ap (λ (K : List Entry). base (push K) (0 ∷ [])) (d .are)
 
-    seat-of : (j : ℕ) → seatFrom work′ (at j) ≡ seatNo (link j)
-    seat-of j = seat-from work′ (p .drafts .small) (at j)
+    pub settled-long : r .length ≡ length (sent (T l) (S l) symbol)
+    settled-long =
+        sym (piece-length work′ (r .at) (r .length) (omega (arith, s .part, s .whole))) ∙ ap length sent-is
 
-    foot-of : (i : ℕ) → i < n → footFrom work′ (at i) ≡ footNo (link i)
-    foot-of i lt = foot-from work′ (p .drafts .small) (at i) (p .drafts .below i lt)
+    longest-is : r .longest ≡ longest (stepped (T l) (S l) symbol .entries)
+    longest-is = s .longest ∙ ap (λ (K : List Entry). longest (cut (push K))) (d .are)
 
-    rooted : (i : ℕ) → i < n
-        → (footFrom work′ (at i) ≡ 0)
-        ⊎ ((j : ℕ) × (j < n) × (seatFrom work′ (at j) ≡ footFrom work′ (at i)))
-    rooted i lt =
-        let x = drafted i lt in
-        go (lies-rooted (H l) (shaken-lies (T l) (S l) symbol (ok l)) (link i) (x .0) (x .1) .1)
-      where
-        go : (link i ≡ linkOf (ground (link i .here .state)))
-            ⊎ ((f : Entry) × (f among E) × (link i ≡ on (link i .here .state) (link i .here .marker) (f .link)))
-            → (footFrom work′ (at i) ≡ 0)
-            ⊎ ((j : ℕ) × (j < n) × (seatFrom work′ (at j) ≡ footFrom work′ (at i)))
-        go (inl e) = inl (foot-of i lt ∙ ap footNo e)
-        go (inr f) =
-            let y = f .0 .piece ++ base (push E) (seat (f .0 .link)) in
-            let m =
-            subst (λ (K : List Entry). entry (f .0 .link) y among K) (sym are)
-            (push-in E (rise l) (f .0 .link) (f .0 .piece) (f .1)) in
-            let o = stacked-out (λ i. draftIn work′ (slotOf order i)) n m in
-            let k : f .0 .link ≡ link (o .0) = ap (λ (e : Entry). e .link) (o .2) in
-            let s : seatNo (f .0 .link) ≡ footNo (link i) =
-            sym (ap footNo (f .2) ∙ (let q = f .0 .link in omega arith)) in
-            inr (o .0, o .1, seat-of (o .0) ∙ ap seatNo (sym k) ∙ s ∙ sym (foot-of i lt))
+    pub settled-depth : depth < 256
+    settled-depth = let o = l .opened in omega (arith, opened-shallow o)
 
-    module _ {slot long : ℕ} (c : CommonOn work′ order n 0 slot long) where
-      long-is : long ≡ length (base (draftsOf work′ order n) (0 ∷ []))
-      long-is = sym (common-length left-reads c) ∙ ap length (sym (base-bottom left-reads c))
+    pub settled-backlog : (out : List ℕ) → tableOf file .waitingCap < r .longest
+        → Stepped file session symbol out 9 0 session out
+    settled-backlog out lt =
+        told-refused file session symbol out (ready l .good) (ready l .sound)
+        (backlog (T l) (S l) symbol (length out) (agrees l) (rw longest-is at lt)) (λ z. omega arith)
 
-      pub left-handed : Handed work′ order n handed long
-      left-handed =
-          record {
-            drafts = p .drafts;
-            rise = rw are (push-rises E (rise l));
-            each = p .each;
-            sent = long-is;
-            rooted = rooted;
-          }
+    module _ (le : r .longest ≤ tableOf file .waitingCap) where
+      waits : Waits (T l) (S l) symbol
+      waits = record { agrees = agrees l; short = rw longest-is at le }
 
-      pub left-settled : {cuts : List ℕ} → CutTo work′ order n cuts n
-          → Settled file session symbol depth work′ order n cuts slot long
-      left-settled t =
-          let h = holds-place left-reads (c .place some) in
-          record {
-            left = l;
-            drafts = p .drafts;
-            enough = cut-enough t;
-            lowest = λ i lt z. let x = drafted i lt in ranges l (link i) (x .0) (x .1) .zero .1 z;
-            are = cut-are t ∙ ap cut are;
-            within = h .within;
-            short = h .short;
-            part = c .short;
-            is = sym (base-bottom left-reads c) ∙ ap (λ (K : List Entry). base K (0 ∷ [])) are;
-          }
+      pub settled-no-room : (out : List ℕ) → length out < r .length → Stepped file session symbol out 10 0 session out
+      settled-no-room out lt =
+          let e = settled-long in
+          told-refused file session symbol out (ready l .good) (ready l .sound)
+          (no-room (T l) (S l) symbol (length out) waits (omega arith)) (λ z. omega arith)
 
-module _ {file session work order cuts : List ℕ} {symbol depth n slot long : ℕ}
-    (s : Settled file session symbol depth work order n cuts slot long) where
-  abbrev m : LeftOf file session symbol depth
-  m = s .left
+      module _ (out : List ℕ) (room : r .length ≤ length out) where
+        is-taken : linkNumber (T l) (length out) (S l) symbol ≡ 0
+        is-taken = let e = settled-long in taken (T l) (S l) symbol (length out) waits (omega arith)
 
-  pub settled-weighable : Weighable work order n cuts
-  settled-weighable = record { drafts = s .drafts; enough = s .enough; bottom = s .lowest }
+        after : Sound (T l) (stepped (T l) (S l) symbol)
+        after = stepped-sound (T l) (S l) symbol (ok l) (length out) is-taken (rules l)
 
-  holds : Holds work slot
-  holds = record { whole = s .drafts .whole; within = s .within; short = s .short }
+        -- a settled piece has room in a session
+        pub settled-fits : Fits work′
+        settled-fits =
+            record {
+              whole = s .whole;
+              few = omega (arith, s .count, d .drafts .few);
+              below = λ i lt. s .below i (omega (arith, s .count));
+              lies = λ i lt. s .lies i (omega (arith, s .count));
+              short = λ i lt. short i lt;
+            }
+          where
+            short : (i : ℕ) → i < countOf work′ → lengthAt work′ i ≤ pieceRoom
+            short i lt =
+                let k = subst (λ (K : List Entry). draftIn work′ i among K) are
+                (part-in (draftIn work′) 0 (countOf work′) i (omega arith) lt) in
+                let lies = s .lies i (omega (arith, s .count)) in
+                omega (
+                  arith,
+                  piece-short (T l) (rules l) (stepped (T l) (S l) symbol) after (draftIn work′ i) k,
+                  piece-length work′ (whereAt work′ i) (lengthAt work′ i) (omega (arith, s .whole)),
+                )
 
-  pub settled-long : long ≡ length (sent (T m) (S m) symbol)
-  settled-long =
-      let e = ap length (s .is) in
-      omega (arith, length-take long (pieceIn work slot), piece-length holds, s .part)
-
-  pub settled-part : long ≤ length (pieceIn work slot)
-  settled-part = omega (arith, piece-length holds, s .part)
-
-  pub settled-depth : depth < 256
-  settled-depth =
-      let o = m .opened in
-      let d = deeper-within (T m .class symbol) (S m .depth) (T m .depthCap) (ok m .depth) (o .to .shallow) in
-      omega (arith, o .is, rules m .depthCap .1)
-
-  pub settled-backlog : (out : List ℕ) → tableOf file .waitingCap < longest (cutDrafts work order cuts n)
-      → Stepped file session symbol out 9 0 session out
-  settled-backlog out lt =
-      told-refused file session symbol out (proper m .good) (proper m .sound)
-      (backlog (T m) (S m) symbol (length out) (agrees m) (rw (s .are) at lt)) (λ z. omega arith)
-
-  module _ (le : longest (cutDrafts work order cuts n) ≤ tableOf file .waitingCap) where
-    waits : Waits (T m) (S m) symbol
-    waits = record { agrees = agrees m; short = rw (s .are) at le }
-
-    pub settled-no-room : (out : List ℕ) → length out < long → Stepped file session symbol out 10 0 session out
-    settled-no-room out lt =
-        let e = settled-long in
-        told-refused file session symbol out (proper m .good) (proper m .sound)
-        (no-room (T m) (S m) symbol (length out) waits (omega arith)) (λ z. omega arith)
-
-    module _ (out : List ℕ) (room : long ≤ length out) where
-      is-taken : linkNumber (T m) (length out) (S m) symbol ≡ 0
-      is-taken = let e = settled-long in taken (T m) (S m) symbol (length out) waits (omega arith)
-
-      after : Sound (T m) (stepped (T m) (S m) symbol)
-      after = stepped-sound (T m) (S m) symbol (ok m) (length out) is-taken (rules m)
-
-      -- a cut piece has room in a session
-      pub settled-cuts : Cuts work order cuts n
-      settled-cuts = record { drafts = s .drafts; within = s .enough; short = short }
-        where
-          short : (i : ℕ) → i < n → lengthIn work (slotOf order i) - getD cuts i 0 ≤ pieceRoom
-          short i lt =
-              let e = cutDraft work order cuts i in
-              let k =
-              subst (λ (K : List Entry). e among K) (s .are) (stacked-in (cutDraft work order cuts) n i lt) in
-              let h : Holds work (slotOf order i) =
-              record {
-                whole = s .drafts .whole;
-                within = omega (arith, s .drafts .within i lt, s .drafts .few);
-                short = s .drafts .short i lt;
-              } in
-              omega (
-                arith,
-                piece-short (T m) (rules m) (stepped (T m) (S m) symbol) after e k,
-                length-drop (getD cuts i 0) (pieceIn work (slotOf order i)),
-                piece-length h,
-              )
-
-      pub settled-taken : {session′ out′ piece : List ℕ} → session′ ≡ bytesOf (cutSession depth work order cuts n)
-          → piece ≡ pieceIn work slot → out′ ≡ take (long - 0) piece ++ drop (length (take (long - 0) piece)) out
-          → Stepped file session symbol out 0 long session′ out′
-      settled-taken {piece = piece} e g f =
-          let is : cutSession depth work order cuts n ≡ stepped (T m) (S m) symbol =
-          λ i. record { depth = m .opened .is i; entries = s .are i } in
-          let none : long - 0 ≡ long = omega arith in
-          let whole = ap (λ (k : ℕ). take k piece) none ∙ ap (take long) g in
-          told-taken file session symbol out (proper m .good) (proper m .sound) (proper m .small) is-taken settled-long
-          (e ∙ ap bytesOf is)
-          (f
-          ∙ ap (λ (w : Word). w ++ drop (length w) out) (whole ∙ s .is)
-          ∙ ap (λ (k : ℕ). sent (T m) (S m) symbol ++ drop k out) (sym settled-long))
+        pub settled-taken : {session′ out′ : List ℕ} (n : ℕ) → n ≡ r .length → session′ ≡ bytesOf (draftSession depth work′)
+            → out′ ≡ take n (drop (r .at) work′) ++ drop (length (take n (drop (r .at) work′))) out
+            → Stepped file session symbol out 0 (r .length) session′ out′
+        settled-taken n g e f =
+            let is : draftSession depth work′ ≡ stepped (T l) (S l) symbol =
+            λ i. record { depth = l .opened .is i; entries = are i } in
+            let whole = ap (λ (k : ℕ). take k (drop (r .at) work′)) g in
+            told-taken file session symbol out (ready l .good) (ready l .sound) (ready l .small) is-taken settled-long
+            (e ∙ ap bytesOf is)
+            (f
+            ∙ ap (λ (w : Word). w ++ drop (length w) out) (whole ∙ sent-is)
+            ∙ ap (λ (k : ℕ). sent (T l) (S l) symbol ++ drop k out) (sym settled-long))

@@ -3,3 +3,4 @@ pub mod Tested
 pub mod Rewritten
 pub mod Asked
 pub mod Ended
+pub mod Telling

@@ -2,19 +2,18 @@
 use mathlib.Core.Path.{_≡_}
 use mathlib.Core.Bool.{Bool, false, _&&_}
 use mathlib.Core.List.{List, []}
-use Prim.Native.Nat.{ℕ, _<_, _≤_}
+use Prim.Native.Nat.{ℕ, _≤_}
 use lib.Dec.{eqb}
-use lib.ListN.{length, getD, take}
+use lib.ListN.{length}
 use Rattle.words.specs.Lists.{isEmpty}
 use Rattle.meaning.specs.Table.{unused, call, return, is, Table}
 use Rattle.meaning.specs.Answers.{linksCap, deeper}
 use Rattle.table.specs.File.{tableOf}
 use Rattle.standing.specs.Sessions.{Session}
-use Rattle.standing.specs.Bytes.{linkFrom, sessionOf}
-use Rattle.stepping.specs.Stepping.{grow, keep, conflict, kept, shaken, stepped, sent}
-use Rattle.drafting.specs.Drafts.{slotStart, draftRoom, lengthIn, pieceIn, slotOf, draftsOf, Drafts}
-use Rattle.drafting.specs.Cutting.{cutDrafts}
-use Rattle.stepping.specs.Promises.{Proper}
+use Rattle.standing.specs.Bytes.{sessionOf}
+use Rattle.stepping.specs.Stepping.{grow, keep, conflict, kept, shaken}
+use Rattle.drafting.specs.Drafts.{draftsOf, Drafted}
+use Rattle.ending.specs.Finishing.{Ready}
 
 -- the symbol is known, and neither closes nor opens too much
 pub record Open (T : Table) (S : Session) (a : ℕ) : Type 0 where
@@ -24,15 +23,15 @@ pub record Open (T : Table) (S : Session) (a : ℕ) : Type 0 where
 
 -- all this, and which depth follows
 pub record Opened (file session : List ℕ) (a depth : ℕ) : Type 0 where
-  pub proper : Proper file session
+  pub ready : Ready file session
   pub to : Open (tableOf file) (sessionOf session) a
   pub is : depth ≡ deeper (tableOf file .class a) (sessionOf session .depth)
 
 -- what follows is drafted, each link once, and there is something; whether two clash is known
-pub record Grew (file session : List ℕ) (a depth : ℕ) (work order : List ℕ) (count : ℕ) (clash : Bool) : Type 0 where
+pub record Grew (file session : List ℕ) (a depth : ℕ) (work : List ℕ) (clash : Bool) : Type 0 where
   pub opened : Opened file session a depth
-  pub drafts : Drafts work order count
-  pub are : draftsOf work order count ≡ keep [] (grow (tableOf file) (sessionOf session) a)
+  pub drafts : Drafted work
+  pub are : draftsOf work ≡ keep [] (grow (tableOf file) (sessionOf session) a)
   pub odds : clash ≡ conflict [] (grow (tableOf file) (sessionOf session) a)
   pub some : isEmpty (grow (tableOf file) (sessionOf session) a) ≡ false
 
@@ -43,21 +42,7 @@ pub record LeftOf (file session : List ℕ) (a depth : ℕ) : Type 0 where
   pub few : length (shaken (kept (tableOf file) (sessionOf session) a) .entries) ≤ linksCap
   pub one : conflict [] (grow (tableOf file) (sessionOf session) a) ≡ false
 
-pub record Left (file session : List ℕ) (a depth : ℕ) (work order : List ℕ) (n : ℕ) : Type 0 where
+pub record Left (file session : List ℕ) (a depth : ℕ) (work : List ℕ) : Type 0 where
   pub left : LeftOf file session a depth
-  pub drafts : Drafts work order n
-  pub are : draftsOf work order n ≡ shaken (kept (tableOf file) (sessionOf session) a) .entries
-
--- the drafts are pushed, and it is known by how much each is to be cut and what is to be sent: `long` bytes of a slot
-pub record Settled (file session : List ℕ) (a depth : ℕ) (work order : List ℕ) (n : ℕ) (cuts : List ℕ) (slot long : ℕ)
-    : Type 0 where
-  pub left : LeftOf file session a depth
-  pub drafts : Drafts work order n
-  pub enough : (i : ℕ) → i < n → getD cuts i 0 ≤ lengthIn work (slotOf order i)
-  pub lowest : (i : ℕ) → i < n → linkFrom work (slotStart (slotOf order i)) .level ≡ 0
-      → linkFrom work (slotStart (slotOf order i)) .here .marker ≡ 0
-  pub are : cutDrafts work order cuts n ≡ stepped (tableOf file) (sessionOf session) a .entries
-  pub within : slot < linksCap
-  pub short : lengthIn work slot ≤ draftRoom
-  pub part : long ≤ lengthIn work slot
-  pub is : take long (pieceIn work slot) ≡ sent (tableOf file) (sessionOf session) a
+  pub drafts : Drafted work
+  pub are : draftsOf work ≡ shaken (kept (tableOf file) (sessionOf session) a) .entries

@@ -1,24 +1,25 @@
--- How the drafts become a session: each is cut in front and put at its place.
+-- How the drafts become a session: each is put at its place.
 use mathlib.Core.Path.{_≡_}
 use mathlib.Core.List.{List}
-use Prim.Native.Nat.{ℕ, _-_, _<_, _≤_}
+use Prim.Native.Nat.{ℕ, _<_, _≤_}
 use lib.ListN.{length, getD}
 use Rattle.meaning.specs.Answers.{linksCap}
 use Rattle.standing.specs.Sessions.{Entry, Session}
-use Rattle.standing.specs.Bytes.{pieceRoom, noEntry, linkBytes}
+use Rattle.standing.specs.Bytes.{linkStart, pieceRoom, countOf, lengthAt, NoneBelow, noEntry, linkBytes}
 use Rattle.standing.specs.Numbers.{Holds, Same, Put}
-use Rattle.drafting.specs.Drafts.{lengthIn, slotOf, Drafts}
-use Rattle.drafting.specs.Cutting.{cutDrafts}
+use Rattle.drafting.specs.Drafts.{workSize, draftsOf, Lies}
 
--- cuts that leave of each drafted piece no more than a session has places for
-pub record Cuts (work order cuts : List ℕ) (n : ℕ) : Type 0 where
-  pub drafts : Drafts work order n
-  pub within : (i : ℕ) → i < n → getD cuts i 0 ≤ lengthIn work (slotOf order i)
-  pub short : (i : ℕ) → i < n → lengthIn work (slotOf order i) - getD cuts i 0 ≤ pieceRoom
+-- drafts that lie in the room, each with a piece that a session has places for
+pub record Fits (work : List ℕ) : Type 0 where
+  pub whole : length work ≡ workSize
+  pub few : countOf work ≤ linksCap
+  pub below : (i : ℕ) → i < countOf work → NoneBelow work (linkStart i)
+  pub lies : (i : ℕ) → i < countOf work → Lies work i
+  pub short : (i : ℕ) → i < countOf work → lengthAt work i ≤ pieceRoom
 
--- the session that the drafts become, each without what is cut in front
-abbrev pub cutSession : ℕ → List ℕ → List ℕ → List ℕ → ℕ → Session
-cutSession depth work order cuts n = record { depth = depth; entries = cutDrafts work order cuts n }
+-- the session that the drafts become
+abbrev pub draftSession : ℕ → List ℕ → Session
+draftSession depth work = record { depth = depth; entries = draftsOf work }
 
 -- an entry of a list, or nothing behind its end, was put at its place
 abbrev pub PutFrom : List Entry → List ℕ → ℕ → List ℕ → Type 0

@@ -1,25 +1,29 @@
 // One step: the tests in their order, each after the work that it needs. The session and the output are written only
 // once all have passed.
 use crate::write;
-use drafting::cutting;
-use drafting::lower;
-use drafting::settling;
-use drafting::slots;
-use drafting::slots::WORK;
+use drafting::WORK;
 use growing::growth;
-use links::levels::LEVELS;
-use numbers::Answer;
-use numbers::Number;
-use numbers::is_taken;
-use numbers::refused;
-use numbers::taken;
 use places::SIZE;
-use words::send;
 ghost use Rattle.words.specs.Words.{Bytes};
 ghost use Rattle.table.specs.Good.{first, Good};
-ghost use Rattle.stepping.specs.Promises.{Proper, Answered};
-ghost use Rattle.drafting.specs.Drafts.{Ranked};
-ghost use Rattle.engine.specs.Tests.{Opened, Grew, Left, Settled};
+ghost use Rattle.ending.specs.Finishing.{Ready};
+ghost use Rattle.engine.specs.Calls.{Answered};
+ghost use Rattle.engine.specs.Tests.{Opened, Grew, Left};
+
+// What `step` answers.
+pub enum Answer {
+    Taken { count: usize },
+    BadTable,
+    BadSession,
+    UnknownSymbol,
+    Unopened,
+    TooDeep,
+    NoRun,
+    Crowded,
+    Conflict,
+    Backlog,
+    NoRoom,
+}
 
 // Takes one symbol.
 pub fn step(file: &[u8], session: &mut [u8; SIZE], symbol: u8, out: &mut [u8]) -> Answer
@@ -43,11 +47,10 @@ pub fn step_in(
         Answered (now (file .entry)) (now (session .entry)) symbol (now (out .entry)) r
         (now (session .exit)) (now (out .exit)) ⌝ }
 {
-    let checked = checking::check(file);
-    if !is_taken(checked) {
-        return checked;
+    match checking::check(file) {
+        checking::Verdict::BadTable => Answer::BadTable,
+        checking::Verdict::Taken => on_table(file, session, symbol, out, work),
     }
-    on_table(file, session, symbol, out, work)
 }
 
 // With a good table.
@@ -64,7 +67,7 @@ fn on_table(
         (now (session .exit)) (now (out .exit)) ⌝ }
 {
     if !session::sound(file, session) {
-        return refused(Number::BadSession);
+        return Answer::BadSession;
     }
     on_session(file, session, symbol, out, work)
 }
@@ -77,23 +80,23 @@ fn on_session(
     out: &mut [u8],
     work: &mut [u8; WORK],
 ) -> Answer
-    requires { ⌜ Proper (now file) (now session) ⌝ }
+    requires { ⌜ Ready (now file) (now session) ⌝ }
     ensures { λ r. ⌜
         Answered (now (file .entry)) (now (session .entry)) symbol (now (out .entry)) r
         (now (session .exit)) (now (out .exit)) ⌝ }
 {
     let depth = places::depth(session);
     match table::class_of(file, symbol) {
-        table::Class::Unused => refused(Number::UnknownSymbol),
+        table::Class::Unused => Answer::UnknownSymbol,
         table::Class::Call => {
             if depth == table::depth_cap(file) {
-                return refused(Number::TooDeep);
+                return Answer::TooDeep;
             }
             on_open(file, session, symbol, depth + 1, out, work)
         }
         table::Class::Return => {
             if depth == 0 {
-                return refused(Number::Unopened);
+                return Answer::Unopened;
             }
             on_open(file, session, symbol, depth - 1, out, work)
         }
@@ -115,24 +118,13 @@ fn on_open(
         Answered (now (file .entry)) (now (session .entry)) symbol (now (out .entry)) r
         (now (session .exit)) (now (out .exit)) ⌝ }
 {
-    let mut order = [0u8; 64];
-    match growth::grow(file, session, symbol, work, &mut order) {
-        growth::Growth::Full => refused(Number::Crowded),
-        growth::Growth::Made { count, clash } => {
-            if count == 0 {
-                return refused(Number::NoRun);
+    match growth::grow(file, session, symbol, work) {
+        growth::Growth::Full => Answer::Crowded,
+        growth::Growth::Made { clash } => {
+            if links::count(&work[..]) == 0 {
+                return Answer::NoRun;
             }
-            on_grown(
-                file,
-                session,
-                symbol,
-                depth,
-                out,
-                work,
-                &mut order,
-                count,
-                clash,
-            )
+            on_grown(file, session, symbol, depth, out, work, clash)
         }
     }
 }
@@ -145,28 +137,24 @@ fn on_grown(
     depth: usize,
     out: &mut [u8],
     work: &mut [u8; WORK],
-    order: &mut [u8; 64],
-    count: usize,
     clash: bool,
 ) -> Answer
-    requires { ⌜ Grew (now file) (now session) symbol depth (now work) (now order) count clash ⌝ }
+    requires { ⌜ Grew (now file) (now session) symbol depth (now work) clash ⌝ }
     ensures { λ r. ⌜
         Answered (now (file .entry)) (now (session .entry)) symbol (now (out .entry)) r
         (now (session .exit)) (now (out .exit)) ⌝ }
 {
-    let mut ends = [0u8; LEVELS];
-    match lower::shake(session, depth, work, order, &mut ends, count) {
-        lower::Shaken::Full => refused(Number::Crowded),
-        lower::Shaken::Drafted { count: n } => {
-            if clash {
-                return refused(Number::Conflict);
-            }
-            on_shaken(file, session, symbol, depth, out, work, order, n, &ends)
-        }
+    if !drafting::shake(session, depth, work) {
+        return Answer::Crowded;
     }
+    if clash {
+        return Answer::Conflict;
+    }
+    on_shaken(file, session, symbol, depth, out, work)
 }
 
-// And none clash: what pieces have in common is handed down, and it is found what is sent and what is cut.
+// And none clash: what pieces have in common is handed down and cut. The last two tests; then the output and the session
+// are written.
 fn on_shaken(
     file: &[u8],
     session: &mut [u8; SIZE],
@@ -174,69 +162,24 @@ fn on_shaken(
     depth: usize,
     out: &mut [u8],
     work: &mut [u8; WORK],
-    order: &[u8; 64],
-    n: usize,
-    ends: &[u8; LEVELS],
 ) -> Answer
-    requires { ⌜ Left (now file) (now session) symbol depth (now work) (now order) n ⌝ }
-    requires { ⌜ Ranked (now work) (now order) n (now ends) ⌝ }
+    requires { ⌜ Left (now file) (now session) symbol depth (now work) ⌝ }
     ensures { λ r. ⌜
         Answered (now (file .entry)) (now (session .entry)) symbol (now (out .entry)) r
         (now (session .exit)) (now (out .exit)) ⌝ }
 {
-    let mut handed = [0usize; 64];
-    settling::push(work, order, n, ends, &mut handed);
-    let sent = settling::common_on(work, order, n, ends, 0);
-    let slot = sent.slot;
-    let long = sent.length;
-    let mut cuts = [0usize; 64];
-    cutting::cut_all(work, order, n, ends, &handed, long, &mut cuts);
-    on_settled(
-        file,
-        session,
-        symbol,
-        depth,
-        out,
-        work,
-        order,
-        n,
-        ends,
-        &cuts,
-        slot,
-        long,
-    )
-}
-
-// The last two tests; then the output and the session are written.
-fn on_settled(
-    file: &[u8],
-    session: &mut [u8; SIZE],
-    symbol: u8,
-    depth: usize,
-    out: &mut [u8],
-    work: &[u8; WORK],
-    order: &[u8; 64],
-    n: usize,
-    ends: &[u8; LEVELS],
-    cuts: &[usize; 64],
-    slot: usize,
-    long: usize,
-) -> Answer
-    requires { ⌜
-        Settled (now file) (now session) symbol depth (now work) (now order) n (now cuts) slot long ⌝ }
-    requires { ⌜ Ranked (now work) (now order) n (now ends) ⌝ }
-    ensures { λ r. ⌜
-        Answered (now (file .entry)) (now (session .entry)) symbol (now (out .entry)) r
-        (now (session .exit)) (now (out .exit)) ⌝ }
-{
-    if table::waiting_cap(file) < cutting::longest(work, order, n, ends, cuts) {
-        return refused(Number::Backlog);
+    let settled = drafting::settle(work);
+    let at = settled.at;
+    let long = settled.length;
+    if table::waiting_cap(file) < settled.longest {
+        return Answer::Backlog;
     }
     if out.len() < long {
-        return refused(Number::NoRoom);
+        return Answer::NoRoom;
     }
-    let piece = slots::piece(work, slot);
-    send(out, &piece[0..long]);
-    write::write(session, work, order, n, cuts, depth);
-    taken(long)
+    let end = at + long;
+    let room = &work[..];
+    ending::send(out, &room[at..end]);
+    write::write(session, work, depth);
+    Answer::Taken { count: long }
 }

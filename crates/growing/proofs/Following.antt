@@ -1,8 +1,9 @@
 -- What follows a link by a row, and all links by all rows, in the order that the code finds it in. Assumes nothing.
 use mathlib.Core.Path.{_≡_, refl, sym, _∙_, ap}
 use mathlib.Core.Bool.{Bool, true, false, cond, _&&_}
+use mathlib.Core.Option.{some}
 use mathlib.Core.List.{List, [], _∷_, _++_, List·Memᴰ·head}
-use Prim.Native.Nat.{ℕ, _+_, _<_, _≤_}
+use Prim.Native.Nat.{ℕ, suc, _+_, _<_, _≤_}
 use native.Mathlib.Omega.{arith}
 use borrow.Author.Tests.{eq-eqb, ne-eqb, eqb-true}
 use lib.Dec.{eqb}
@@ -11,23 +12,87 @@ use Rattle.words.specs.Lists.{each, only, upTo}
 use Rattle.words.proofs.Lists.{each-map, getD-byte}
 use Rattle.words.specs.LittleEndian.{byte}
 use Rattle.meaning.specs.Table.{Class, unused, call, return, internal, Row}
-use Rattle.meaning.specs.Trails.{Link}
+use Rattle.meaning.specs.Trails.{Link, on}
 use Rattle.table.specs.File.{rowCount, wordOf, rowAt, tableOf}
 use Rattle.table.specs.Calls.{FirstRow}
 use Rattle.table.proofs.Symbols.{none-before}
 use Rattle.table.proofs.Stands.{rows-of}
 use Rattle.standing.specs.Sessions.{Entry, entry}
-use Rattle.standing.specs.Bytes.{linkStart, pieceRoom, countOf, lengthAt, linkAt, pieceAt, entryAt, sessionOf}
+use Rattle.standing.specs.Bytes.{pair, linkStart, pieceRoom, countOf, lengthAt, linkAt, pieceAt, entryAt, sessionOf, Kept}
 use Rattle.standing.specs.Numbers.{seatAt, footAt}
 use Rattle.standing.proofs.Feet.{stands-foot}
 use Rattle.stepping.specs.Stepping.{seat, hasFoot, movedTo, fitsLink, follow, takes, grow}
-use Rattle.drafting.specs.Drafts.{draftRoom, Plain}
-use Rattle.growing.specs.Growing.{Grown, Gathers, Usable, Fitting, after, lowered, uncovered, byClass, byRow}
+use Rattle.links.specs.declared.Link.{Link as Five}
+use Rattle.links.specs.Heads.{meant, Read}
+use Rattle.links.proofs.Linked.{read-meant}
+use Rattle.drafting.specs.Drafts.{draftRoom, Plain, Clean}
+use Rattle.drafting.proofs.Rooms.{clean-read}
+use Rattle.growing.specs.Growing.{Grown, Gathers, Made, Usable, Fitting, after, lowered, uncovered, byClass, byRow}
 use Rattle.growing.specs.Growing.{byRows}
 use Rattle.growing.specs.declared.growth.Growth.{Growth}
 use Rattle.stepping.proofs.Feet.{seat-stands}
 use Rattle.growing.proofs.Gathering.{Passing, passing-start, passing-skip, each-same, gathers-as, fitting-one}
 use Rattle.growing.proofs.Gathering.{fitting-as}
+
+-- links by value, made of a session's
+module _ {session : List ℕ} {i : ℕ} (kept : Kept session) (lt : i < countOf session) {old : Five}
+    (r : Read session (linkStart i) old) where
+  abbrev c : Clean old
+  c = clean-read i (kept .small) (kept .below i lt) r
+
+  pub made-moved : (q : ℕ) → q < 256
+      → Made (movedTo q (linkAt session i)) (record {
+        level = old .level;
+        state = q;
+        marker = old .marker;
+        «state_below» = old .«state_below»;
+        «marker_below» = old .«marker_below»;
+      })
+  made-moved q h =
+      record {
+        is = ap (movedTo q) (sym (read-meant r));
+        clean = record {
+          level = c .level;
+          state = h;
+          marker = c .marker;
+          state-below = c .state-below;
+          marker-below = c .marker-below;
+          none = c .none;
+        };
+      }
+
+  pub made-over : (n q m : ℕ) → n ≡ old .level + 1 → Plain (on q m (linkAt session i))
+      → Made (on q m (linkAt session i)) (record {
+        level = n;
+        state = q;
+        marker = m;
+        «state_below» = old .state;
+        «marker_below» = old .marker;
+      })
+  made-over n q m e p =
+      record {
+        is = is;
+        clean = record {
+          level = omega (arith, p .level, r .level);
+          state = p .state;
+          marker = p .marker;
+          state-below = c .state;
+          marker-below = c .marker;
+          none = λ z. absurd (omega arith);
+        };
+      }
+    where
+      is : meant (record {
+        level = n;
+        state = q;
+        marker = m;
+        «state_below» = old .state;
+        «marker_below» = old .marker;
+      }) ≡ on q m (linkAt session i)
+      is =
+          let a : n ≡ suc (linkAt session i .level) = omega (arith, r .level) in
+          rw (ne-eqb n 0 (λ z. omega arith))
+          (λ k. record { level = a k; here = pair q m; below = some (pair (r .state k) (r .marker k)) })
 
 -- the only one of a list is plain, and its piece has room
 pub fitting-only : {e : Entry} → Fitting (e ∷ []) → Plain (e .link) × (length (e .piece) ≤ draftRoom)
@@ -73,16 +138,16 @@ module _ (file session : List ℕ) (i r : ℕ) where
       → Fitting (uncovered file session i r j)
   return-fitting j l f = fitting-one (uncovered file session i r) j l (fitting-as f (sym return-is))
 
-  pub return-end : {n : ℕ} {work order work′ order′ : List ℕ} {g g′ : Growth}
-      → Passing (uncovered file session i r) work order g n work′ order′ g′ → n ≡ countOf session
-      → Gathers (after file session return i r) work order g g′ work′ order′
+  pub return-end : {n : ℕ} {work work′ : List ℕ} {g g′ : Growth}
+      → Passing (uncovered file session i r) work g n work′ g′ → n ≡ countOf session
+      → Gathers (after file session return i r) work g g′ work′
   return-end p e = gathers-as (rw e at (p .made)) return-is
 
   -- from a link on that is as high, nothing more is uncovered
-  pub return-stop : Usable file session → {n : ℕ} {work order work′ order′ : List ℕ} {g g′ : Growth}
-      → Passing (uncovered file session i r) work order g n work′ order′ g′ → n < countOf session
+  pub return-stop : Usable file session → {n : ℕ} {work work′ : List ℕ} {g g′ : Growth}
+      → Passing (uncovered file session i r) work g n work′ g′ → n < countOf session
       → linkAt session i .level ≤ linkAt session n .level
-      → Gathers (after file session return i r) work order g g′ work′ order′
+      → Gathers (after file session return i r) work g g′ work′
   return-stop u {n} p lt l =
       let high : (k : ℕ) → n ≤ k → k < countOf session → uncovered file session i r k ≡ [] =
       λ k le m. uncovered-high u i r k (omega (arith, u .levels n k le m)) in
@@ -167,16 +232,16 @@ module _ (file session : List ℕ) (a i : ℕ) where
   rows-fitting r l f = fitting-one (byRow file session a i) r l f
 
   module _ {q : ℕ} (here : q ≡ linkAt session i .here .state) where
-    pub rows-start : {r : ℕ} {work order : List ℕ} {g : Growth} → FirstRow file a q r
-        → Passing (byRow file session a i) work order g r work order g
+    pub rows-start : {r : ℕ} {work : List ℕ} {g : Growth} → FirstRow file a q r
+        → Passing (byRow file session a i) work g r work g
     rows-start {r} f =
         passing-skip passing-start r (omega arith)
         (λ k l m. by-other k (λ s t. none-before f k m s (t ∙ sym here)))
 
-    pub rows-end : {r : ℕ} {work order work′ order′ : List ℕ} {g g′ : Growth}
-        → Passing (byRow file session a i) work order g r work′ order′ g′ → r ≤ rowCount file
+    pub rows-end : {r : ℕ} {work work′ : List ℕ} {g g′ : Growth}
+        → Passing (byRow file session a i) work g r work′ g′ → r ≤ rowCount file
         → ((k : ℕ) → r ≤ k → k < rowCount file → rowAt file k .symbol ≡ a → rowAt file k .from ≡ q → ⊥)
-        → Gathers (byRows file session a i) work order g g′ work′ order′
+        → Gathers (byRows file session a i) work g g′ work′
     unfolding byRows
     rows-end p l h =
         passing-skip p (rowCount file) l (λ k m n. by-other k (λ s t. h k m n s (t ∙ sym here))) .made
@@ -204,7 +269,7 @@ module _ (file session : List ℕ) (a : ℕ) where
       → Fitting (byRows file session a i)
   grow-fitting i l f = fitting-one (byRows file session a) i l (fitting-as f (sym grow-is))
 
-  pub grow-end : {n : ℕ} {work order work′ order′ : List ℕ} {g g′ : Growth}
-      → Passing (byRows file session a) work order g n work′ order′ g′ → n ≡ countOf session → Grown [] g work order
-      → Grown (grow (tableOf file) (sessionOf session) a) g′ work′ order′
+  pub grow-end : {n : ℕ} {work work′ : List ℕ} {g g′ : Growth}
+      → Passing (byRows file session a) work g n work′ g′ → n ≡ countOf session → Grown [] g work
+      → Grown (grow (tableOf file) (sessionOf session) a) g′ work′
   grow-end p e h = rw (← grow-is, ← e) (p .made [] h)

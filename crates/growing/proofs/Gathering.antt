@@ -8,16 +8,15 @@ use native.Mathlib.Numerals.{add-one}
 use native.Mathlib.Omega.{arith}
 use lib.ListN.{length}
 use Rattle.words.specs.Lists.{each, upTo}
-use Rattle.words.specs.Words.{Word, Bytes}
+use Rattle.words.specs.Words.{Word}
 use Rattle.words.specs.Order.{Side, lower, same, upper, side, putBy, put}
 use Rattle.words.proofs.Lists.{each-in, each-append, upTo-in, below-or}
 use Rattle.meaning.specs.Answers.{linksCap}
 use Rattle.meaning.specs.Trails.{Link}
 use Rattle.standing.specs.Sessions.{RisesByLink, Entry, entry}
 use Rattle.stepping.specs.Stepping.{entryKey, keep, clashes, conflict}
-use Rattle.drafting.specs.Drafts.{workSize, draftsOf, linkNo, Plain, There, Placed, NoSlot as NoRoom, Became}
-use Rattle.drafting.specs.Drafts.{PutIn}
-use Rattle.growing.specs.Growing.{Gathered, Grown, Ready, Gathers, Adds, Fitting}
+use Rattle.drafting.specs.Drafts.{draftsOf, Drafted, There, Placed, NoSlot as NoRoom, Became, PutIn}
+use Rattle.growing.specs.Growing.{Gathered, Grown, Ready, Gathers, Fitting}
 use Rattle.drafting.specs.declared.keeping.Keeping.{Keeping}
 use Rattle.drafting.specs.declared.keeping.Keeping.the-variants.{Same, Other, New, Full}
 use Rattle.growing.specs.declared.growth.Growth.{Growth}
@@ -32,45 +31,41 @@ or-true : (b : Bool) → (b || true) ≡ true
 or-true true = refl
 or-true false = refl
 
-module _ {made work order : List _} {n : ℕ} {c : Bool} (g : Gathered made work order n c) where
-  pub gathered-rises : RisesByLink (draftsOf work order n)
+module _ {made work : List _} {c : Bool} (g : Gathered made work c) where
+  pub gathered-rises : RisesByLink (draftsOf work)
   gathered-rises = rw (g .are) (keep-rises [] made tt)
 
-  kept-one : (e : Entry) → keep [] (made ++ e ∷ []) ≡ put entryKey e (draftsOf work order n)
+  kept-one : (e : Entry) → keep [] (made ++ e ∷ []) ≡ put entryKey e (draftsOf work)
   kept-one e = keep-append [] made (e ∷ []) ∙ ap (put entryKey e) (sym (g .are))
 
-  odds-one : (e : Entry) → conflict [] (made ++ e ∷ []) ≡ (c || clashes e (draftsOf work order n))
+  odds-one : (e : Entry) → conflict [] (made ++ e ∷ []) ≡ (c || clashes e (draftsOf work))
   odds-one e =
       conflict-append [] made (e ∷ [])
       ∙ ap₂ (λ (a b : Bool). a || b) (sym (g .odds))
       (or-false (clashes e (keep [] made)) ∙ ap (clashes e) (sym (g .are)))
 
-  module _ {key : ℕ} {piece : Word} {r : Keeping} {work′ order′ : List ℕ}
-      (p : PutIn work order n key piece r work′ order′) (l : Link) (plain : Plain l) (no : linkNo l ≡ key) where
-    abbrev e : Entry
-    e = entry l piece
+  module _ {e : Entry} {r : Keeping} {work′ : List ℕ} (p : PutIn work e r work′) where
+    told : (q : Keeping) → r ≡ q → Became q work e work′
+    told q h = subst (λ (r : Keeping). Became r work e work′) h (p .became)
 
-    told : (q : Keeping) → r ≡ q → Became q work order n e work′ order′
-    told q h = subst (λ (r : Keeping). Became r work order n e work′ order′) h (p .became l plain no)
-
-    stayed : (d : Bool) → There d work order n e work′ order′ → Gathered (made ++ e ∷ []) work′ order′ n (c || d)
+    stayed : (d : Bool) → There d work e work′ → Gathered (made ++ e ∷ []) work′ (c || d)
     stayed d s =
-        rw (s .same-work, s .same-order)
+        rw (s .same)
         (record {
           drafts = g .drafts;
           are = sym (kept-one e ∙ s .is);
           odds = sym (odds-one e ∙ ap (λ (b : Bool). c || b) (s .clash));
         })
 
-    pub gathered-same : r ≡ Same → Gathered (made ++ e ∷ []) work′ order′ n c
+    pub gathered-same : r ≡ Same → Gathered (made ++ e ∷ []) work′ c
     gathered-same h = rw (or-false c) at (stayed false (told Same h))
 
-    pub gathered-other : r ≡ Other → Gathered (made ++ e ∷ []) work′ order′ n true
+    pub gathered-other : r ≡ Other → Gathered (made ++ e ∷ []) work′ true
     gathered-other h = rw (or-true c) at (stayed true (told Other h))
 
-    pub gathered-new : r ≡ New → Gathered (made ++ e ∷ []) work′ order′ (n + 1) c
+    pub gathered-new : r ≡ New → Gathered (made ++ e ∷ []) work′ c
     gathered-new h =
-        let s : Placed work order n e work′ order′ = told New h in
+        let s : Placed work e work′ = told New h in
         record {
           drafts = s .drafts;
           are = s .is ∙ sym (kept-one e);
@@ -79,36 +74,31 @@ module _ {made work order : List _} {n : ℕ} {c : Bool} (g : Gathered made work
 
     pub gathered-full : r ≡ Full → linksCap < length (keep [] (made ++ e ∷ []))
     gathered-full h =
-        let s : NoRoom work order n e work′ order′ = told Full h in
+        let s : NoRoom work e work′ = told Full h in
         let m = ap length (kept-one e) in
         omega (arith, s .long)
 
 -- the two answers of growing
-made≢full : {n : ℕ} {c : Bool} → Made n c ≡ NoSlot → ⊥
+made≢full : {c : Bool} → Made c ≡ NoSlot → ⊥
 made≢full e = subst (λ (r : Growth). is-made r) e tt
   where
     is-made : Growth → Type 0
     is-made NoSlot = ⊥
-    is-made (Made n c) = Unit {0}
+    is-made (Made c) = Unit {0}
 
-pub grown-made : {made : List Entry} {work order : List ℕ} {n : ℕ} {c : Bool} → Gathered made work order n c
-    → Grown made (Made n c) work order
-grown-made {made} {work} {order} {n} {c} g = record { made = is; full = λ e. absurd (made≢full e) }
+pub grown-made : {made : List Entry} {work : List ℕ} {c : Bool} → Gathered made work c → Grown made (Made c) work
+grown-made {made} {work} {c} g = record { made = is; full = λ e. absurd (made≢full e) }
   where
-    count-of : Growth → ℕ
-    count-of NoSlot = 0
-    count-of (Made n c) = n
-
     clash-of : Growth → Bool
     clash-of NoSlot = false
-    clash-of (Made n c) = c
+    clash-of (Made c) = c
 
-    is : (m : ℕ) (d : Bool) → Made n c ≡ Made m d → Gathered made work order m d
-    is m d e = rw (← ap count-of e, ← ap clash-of e) g
+    is : (d : Bool) → Made c ≡ Made d → Gathered made work d
+    is d e = rw (← ap clash-of e) g
 
-pub grown-full : {made : List Entry} {work order : List ℕ} → linksCap < length (keep [] made)
-    → Grown made NoSlot work order
-grown-full l = record { made = λ n c e. absurd (made≢full (sym e)); full = λ e. l }
+pub grown-full : {made : List Entry} {work : List ℕ} → linksCap < length (keep [] made)
+    → Grown made NoSlot work
+grown-full l = record { made = λ c e. absurd (made≢full (sym e)); full = λ e. l }
 
 -- where there was no slot left for some, there is none for more
 put-adds : (e : Entry) (l : List Entry) → length l ≤ length (put entryKey e l)
@@ -121,54 +111,37 @@ put-adds e (f ∷ l) = go (side (entryKey e) (entryKey f)) (put-adds e l)
     go same h = omega arith
     go upper h = omega arith
 
-pub full-more : {made work order work′ order′ : List _} {g : Growth} (e : Entry) → g ≡ NoSlot → Grown made g work order
-    → Grown (made ++ e ∷ []) NoSlot work′ order′
+pub full-more : {made work work′ : List _} {g : Growth} (e : Entry) → g ≡ NoSlot → Grown made g work
+    → Grown (made ++ e ∷ []) NoSlot work′
 full-more {made} e f g =
     let m = ap length (keep-append [] made (e ∷ [])) in
     grown-full (omega (arith, g .full f, put-adds e (keep [] made)))
 
--- nothing is drafted in any room, nothing more is, and some after others are
-pub gathered-none : {work order : List ℕ} → length work ≡ workSize → Bytes work → length order ≡ linksCap
-    → Gathered [] work order 0 false
-gathered-none w b o =
-    record {
-      drafts =
-          record {
-            whole = w;
-            small = b;
-            ordered = o;
-            few = omega arith;
-            within = λ i l. absurd (omega arith);
-            once = λ i j l m. absurd (omega arith);
-            below = λ i l. absurd (omega arith);
-            short = λ i l. absurd (omega arith);
-          };
-      are = refl;
-      odds = refl;
-    }
+-- nothing is drafted, nothing more is, and some after others are
+pub grown-none : {work : List ℕ} → Drafted work × (draftsOf work ≡ []) → Grown [] (Made false) work
+grown-none d = grown-made (record { drafts = d .0; are = d .1; odds = refl })
 
-module _ {work order : List ℕ} {g : Growth} where
-  pub gathers-none : Gathers [] work order g g work order
+module _ {work : List ℕ} {g : Growth} where
+  pub gathers-none : Gathers [] work g g work
   gathers-none made h = rw (append-nil made) h
 
-  module _ {E work′ order′ : List _} {g′ : Growth} (a : Gathers E work order g g′ work′ order′) where
-    pub gathers-as : {F : List Entry} → E ≡ F → Gathers F work order g g′ work′ order′
+  module _ {E work′ : List _} {g′ : Growth} (a : Gathers E work g g′ work′) where
+    pub gathers-as : {F : List Entry} → E ≡ F → Gathers F work g g′ work′
     gathers-as e = rw (← e) a
 
-    gathers-both : {F work″ order″ : List _} {g″ : Growth} → Gathers F work′ order′ g′ g″ work″ order″
-        → Gathers (E ++ F) work order g g″ work″ order″
+    gathers-both : {F work″ : List _} {g″ : Growth} → Gathers F work′ g′ g″ work″
+        → Gathers (E ++ F) work g g″ work″
     gathers-both {F} b made h = rw (← append-assoc made E F) (b (made ++ E) (a made h))
 
--- one more, whose piece is in other words what it was
-pub added : {work order work′ order′ : List ℕ} {g r : Growth} {key : ℕ} {v w : Word} {l : Link}
-    → Adds work order g key v r work′ order′ → Plain l → linkNo l ≡ key → v ≡ w
-    → Gathers (entry l w ∷ []) work order g r work′ order′
-added {l = l} a p n e = rw (← e) (a l p n)
+-- one more, whose link and piece are in other words what they were
+pub added : {work work′ : List ℕ} {g r : Growth} {k l : Link} {v w : Word} → Gathers (entry k v ∷ []) work g r work′
+    → k ≡ l → v ≡ w → Gathers (entry l w ∷ []) work g r work′
+added a e f = rw (← e, ← f) a
 
 -- what a function makes of each number below `n` was made, one after the other
-pub record Passing (f : ℕ → List Entry) (work order : List ℕ) (g : Growth) (n : ℕ) (work′ order′ : List ℕ) (g′ : Growth)
+pub record Passing (f : ℕ → List Entry) (work : List ℕ) (g : Growth) (n : ℕ) (work′ : List ℕ) (g′ : Growth)
     : Type 0 where
-  pub made : Gathers (each f (upTo n)) work order g g′ work′ order′
+  pub made : Gathers (each f (upTo n)) work g g′ work′
 
 module _ (f : ℕ → List Entry) where
   pub fitting-one : {n : ℕ} (k : ℕ) → k < n → Fitting (each f (upTo n)) → Fitting (f k)
@@ -195,20 +168,20 @@ module _ (f : ℕ → List Entry) where
       go (inr b) ih = let e : n ≡ suc m = omega arith in rw e
 
 module _ {f : ℕ → List Entry} where
-  module _ {work order : List ℕ} {g : Growth} where
-    pub passing-start : Passing f work order g 0 work order g
+  module _ {work : List ℕ} {g : Growth} where
+    pub passing-start : Passing f work g 0 work g
     passing-start = record { made = gathers-none }
 
-    module _ {n : ℕ} {work′ order′ : List ℕ} {g′ : Growth} (p : Passing f work order g n work′ order′ g′) where
-      pub passing-ready : Ready work order g → Ready work′ order′ g′
+    module _ {n : ℕ} {work′ : List ℕ} {g′ : Growth} (p : Passing f work g n work′ g′) where
+      pub passing-ready : Ready work g → Ready work′ g′
       passing-ready m = (m .0 ++ each f (upTo n), p .made (m .0) (m .1))
 
-      pub passing-next : {work″ order″ : List ℕ} {g″ : Growth} → Gathers (f n) work′ order′ g′ g″ work″ order″
-          → Passing f work order g (n + 1) work″ order″ g″
+      pub passing-next : {work″ : List ℕ} {g″ : Growth} → Gathers (f n) work′ g′ g″ work″
+          → Passing f work g (n + 1) work″ g″
       passing-next b = record { made = rw (add-one n) (gathers-as (gathers-both (p .made) b) (each-more f n)) }
 
       pub passing-skip : (m : ℕ) → n ≤ m → ((k : ℕ) → n ≤ k → k < m → f k ≡ [])
-          → Passing f work order g m work′ order′ g′
+          → Passing f work g m work′ g′
       passing-skip m l h = record { made = gathers-as (p .made) (each-same f n m l h) }
 
 pub fitting-as : {E F : List Entry} → Fitting E → E ≡ F → Fitting F

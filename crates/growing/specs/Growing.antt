@@ -6,7 +6,6 @@ use Prim.Native.Nat.{ℕ, _<_, _≤_}
 use lib.ListN.{length}
 use Rattle.meaning.specs.Answers.{linksCap}
 use Rattle.words.specs.Lists.{_among_, each, only, upTo}
-use Rattle.words.specs.Words.{Word}
 use Rattle.meaning.specs.Table.{Class}
 use Rattle.meaning.specs.Trails.{Link}
 use Rattle.table.specs.File.{rowCount, wordOf, rowAt, tableOf}
@@ -14,33 +13,35 @@ use Rattle.table.specs.Good.{first, Good}
 use Rattle.standing.specs.Sessions.{Entry, entry}
 use Rattle.standing.specs.Bytes.{countOf, linkAt, pieceAt, entryAt, sessionOf, Kept}
 use Rattle.stepping.specs.Stepping.{seat, hasFoot, movedTo, fitsLink, follow, takes, keep, conflict}
-use Rattle.drafting.specs.Drafts.{draftRoom, draftsOf, Drafts, linkNo, Plain}
+use Rattle.links.specs.Heads.{meant}
+use Rattle.links.specs.declared.Link.{Link as Five}
+use Rattle.drafting.specs.Drafts.{draftRoom, draftsOf, Drafted, Plain, Clean}
 use Rattle.growing.specs.declared.growth.Growth.{Growth}
-use Rattle.growing.specs.declared.growth.Growth.the-variants.{Full, Made}
+use Rattle.growing.specs.declared.growth.Growth.the-variants.{Full, Made as MadeOf}
 
-pub record Gathered (made : List Entry) (work order : List ℕ) (n : ℕ) (clash : Bool) : Type 0 where
-  pub drafts : Drafts work order n
-  pub are : draftsOf work order n ≡ keep [] made
+-- these entries were drafted one after the other, each link once; whether two were at odds
+pub record Gathered (made : List Entry) (work : List ℕ) (clash : Bool) : Type 0 where
+  pub drafts : Drafted work
+  pub are : draftsOf work ≡ keep [] made
   pub odds : clash ≡ conflict [] made
 
 -- what growing answers, of entries made one after the other: all are kept, or there is no slot left
-pub record Grown (entries : List Entry) (r : Growth) (work order : List ℕ) : Type 0 where
-  pub made : (n : ℕ) (clash : Bool) → r ≡ Made n clash → Gathered entries work order n clash
+pub record Grown (entries : List Entry) (r : Growth) (work : List ℕ) : Type 0 where
+  pub made : (clash : Bool) → r ≡ MadeOf clash → Gathered entries work clash
   pub full : r ≡ Full → linksCap < length (keep [] entries)
 
 -- some entries were made
-abbrev pub Ready : List ℕ → List ℕ → Growth → Type 0
-Ready work order g = (made : List Entry) × Grown made g work order
+abbrev pub Ready : List ℕ → Growth → Type 0
+Ready work g = (made : List Entry) × Grown made g work
 
 -- these entries were made after whatever was before
-abbrev pub Gathers : List Entry → List ℕ → List ℕ → Growth → Growth → List ℕ → List ℕ → Type 0
-Gathers more work order g r work′ order′ =
-    (made : List Entry) → Grown made g work order → Grown (made ++ more) r work′ order′
+abbrev pub Gathers : List Entry → List ℕ → Growth → Growth → List ℕ → Type 0
+Gathers more work g r work′ = (made : List Entry) → Grown made g work → Grown (made ++ more) r work′
 
--- one more, whose link has this number
-abbrev pub Adds : List ℕ → List ℕ → Growth → ℕ → Word → Growth → List ℕ → List ℕ → Type 0
-Adds work order g key piece r work′ order′ =
-    (l : Link) → Plain l → linkNo l ≡ key → Gathers (entry l piece ∷ []) work order g r work′ order′
+-- a link by value, which stands for a link
+pub record Made (l : Link) (r : Five) : Type 0 where
+  pub is : meant r ≡ l
+  pub clean : Clean r
 
 -- what the functions ask: a good file and a session's bytes, with its links by level; links that are plain, and pieces
 -- that have room

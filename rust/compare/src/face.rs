@@ -3,7 +3,7 @@
 use crate::session::BYTES;
 use std::sync::atomic::{AtomicBool, Ordering};
 
-const WORK: usize = 49_664;
+const WORK: usize = 49_920;
 const GUARD: usize = 64;
 const UNTOUCHED: usize = 0x5a5a_5a5a_5a5a;
 

@@ -49,9 +49,9 @@ pub const SESSION: usize = 33_218;
 ///
 /// ```
 /// let work = [0; jermanuts::WORK];
-/// assert_eq!(work.len(), 49_664);
+/// assert_eq!(work.len(), 49_920);
 /// ```
-pub const WORK: usize = 49_664;
+pub const WORK: usize = 49_920;
 
 /// Bytes of output that suffice for every step and finish.
 ///

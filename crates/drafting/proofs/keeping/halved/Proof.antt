@@ -1,70 +1,92 @@
--- `drafting::keeping::halved` meets its contract: the place is between two others. Assumes nothing.
-use mathlib.Core.Path.{_≡_, ap, _∙_}
-use mathlib.Core.List.{List}
-use Prim.Native.Nat.{ℕ, _+_, _-_, _/_, _≤_, _<_}
+use mathlib.Core.Path.{_≡_, refl, sym, ap, _∙_}
+use mathlib.Core.Logic.{inl, inr, ⊎-elim}
+use Prim.Native.Nat.{ℕ, _+_, _-_, _*_, _≤_, _<_}
+use lib.ListN.{length, take, drop, getD, set, length-set}
 use native.Mathlib.Omega.{arith}
-use Rattle.standing.specs.Numbers.{keyFrom}
-use Rattle.drafting.specs.Drafts.{slotStart, slotOf}
-use Rattle.drafting.proofs.Turns.{Above, above-none, above-upto, above-place}
-use Rattle.drafting.proofs.Putting.{numbers-fall}
+use native.Mathlib.Numerals.{add-one}
+use Prim.Native.Nat.{_/_}
+use mathlib.Core.List.{List}
+use Rattle.standing.specs.Numbers.{keyAt}
+use Rattle.links.specs.Heads.{keyOf}
+use Rattle.drafting.proofs.Turns.{Beneath, beneath-none, beneath-upto, beneath-place, not-below}
+use Rattle.drafting.proofs.Putting.{keys-rise}
+use borrow.Author.Needs.{needs}
 use Rattle.drafting.proofs.keeping.halved.Statement.{statement}
 use Rattle.drafting.proofs.keeping.halved.Tie as tie
+use Rattle.drafting.proofs.keeping.halved.Reads as reads
+use Rattle.drafting.proofs.keeping.halved.Lts as lts
+use Rattle.drafting.proofs.keeping.is_below.Reads as is-below-reads
 
 abbrev Inv-loop : tie.InvT-loop
-Inv-loop work order n key low₀ high₀ low high =
-    (low ≤ high) × (high ≤ n) × Above work order key low
-    × (high < n → keyFrom work (slotStart (slotOf order high)) ≤ key)
+Inv-loop work n link low₀ high₀ low high =
+    (low ≤ high) × (high ≤ n) × (n ≤ 64) × Beneath work link low × (high < n → keyOf link ≤ keyAt work high)
 
 abbrev μ-loop : tie.MeasureT-loop
-μ-loop work order n key low₀ high₀ low high = high - low
+μ-loop work n link low₀ high₀ low high = high - low
 
+-- src/keeping.rt:100:5
 loop-holds : tie.Need-loop-holds Inv-loop μ-loop
-loop-holds c = (omega arith, omega arith, above-none, λ h. absurd (omega arith))
+loop-holds c = (omega arith, omega arith, omega (arith, c .pre .0 .few, c .pre .2), beneath-none, λ h. absurd (omega arith))
 
--- the place that is looked at, and the number there
+-- src/keeping.rt:101:29
+-- the place that is looked at
 abbrev middle : (c : tie.In-loop Inv-loop μ-loop) → ℕ
 middle c = let l = c .before .loop in l .low + (l .high - l .low) / 2
 
-within : (c : tie.In-loop Inv-loop μ-loop) → middle c < c .before .before .args .n
-within c = omega (arith, c .before .loop .inv .1)
+sub-middle : tie.Need-sub-middle Inv-loop μ-loop
+sub-middle c = search needs
 
-slot-requires : tie.Need-slot-requires Inv-loop μ-loop
-slot-requires c κs = omega (arith, within c, c .before .before .pre .0 .few)
+-- src/keeping.rt:101:22
+add-middle : tie.Need-add-middle Inv-loop μ-loop
+add-middle c = omega arith
 
-key-requires : tie.Need-key-requires Inv-loop μ-loop
-key-requires c κs =
-    let drafts = c .before .before .before .pre .0 in
-    omega (arith, c .slot .ensures .0, drafts .within _ (within (c .before)), drafts .few)
+-- src/keeping.rt:102:12
+is-below-requires : tie.Need-is-below-requires Inv-loop μ-loop
+is-below-requires c κs = omega arith
 
-number : (c : tie.After-key Inv-loop μ-loop)
-    → let args = c .before .before .before .before .args in
-    c .key .result ≡ keyFrom (args .work .now) (slotStart (slotOf (args .order .now) (middle (c .before .before))))
-number c =
-    let work : List ℕ = c .before .before .before .before .args .work .now in
-    c .key .ensures .0 ∙ ap (λ (t : ℕ). keyFrom work (slotStart t)) (c .before .slot .ensures .0)
+-- src/keeping.rt:103:19
+add-low : tie.Need-add-low Inv-loop μ-loop
+add-low c = omega arith
 
+-- src/keeping.rt:100:5
+loop-less : tie.Need-loop-less Inv-loop μ-loop
+loop-less c = search needs
+
+-- src/keeping.rt:100:5
 loop-again : tie.Need-loop-again Inv-loop μ-loop
 loop-again c =
-    let inv = c .before .before .before .before .loop .inv in
-    (omega arith, omega (arith, inv .1), inv .2, λ h. omega (arith, number (c .before), c .if1 .taken))
-
-loop-again-2 : tie.Need-loop-again-2 Inv-loop μ-loop
-loop-again-2 c =
-    let in-loop = c .before .before .before in
+    let in-loop = c .before .before in
     let inv = in-loop .before .loop .inv in
     let pre = in-loop .before .before .pre in (
       omega arith,
       inv .1,
-      above-upto (middle in-loop) (numbers-fall (pre .0) (pre .1)) (within in-loop)
-          (omega (arith, number (c .before), c .if1 .left)),
-      inv .3,
+      inv .2,
+      beneath-upto (middle in-loop) (keys-rise (pre .0) (pre .1)) (omega (arith, inv .1, pre .2))
+          (c .before .is-below .ensures .1 (c .if1 .taken)),
+      inv .4,
     )
 
+-- src/keeping.rt:100:5
+loop-less-2 : tie.Need-loop-less-2 Inv-loop μ-loop
+loop-less-2 c = search needs
+
+-- src/keeping.rt:100:5
+loop-again-2 : tie.Need-loop-again-2 Inv-loop μ-loop
+loop-again-2 c =
+    let inv = c .before .before .before .loop .inv in (
+      omega arith,
+      omega (arith, inv .1),
+      inv .2,
+      inv .3,
+      λ h. not-below (c .before .is-below .ensures) (c .if1 .left),
+    )
+
+-- src/keeping.rt:94:1
 returns : tie.Need-returns Inv-loop μ-loop
 returns c =
     let inv = c .before .loop .inv in
     let e : c .before .loop .low ≡ c .before .loop .high = omega arith in
-    above-place (inv .2) (omega (arith, inv .1)) (rw e (inv .3))
+    beneath-place (inv .3) (omega (arith, inv .1)) (rw e (inv .4))
 
 pub halved-spec : {M : Type 1} → statement M
 halved-spec =
@@ -73,13 +95,12 @@ halved-spec =
     Inv-loop
     μ-loop
     loop-holds
-    (λ c. omega arith)
-    (λ c. omega arith)
-    slot-requires
-    key-requires
-    (λ c. omega arith)
+    sub-middle
+    add-middle
+    is-below-requires
+    add-low
+    loop-less
     loop-again
-    (λ c. omega arith)
-    (λ c. omega arith)
+    loop-less-2
     loop-again-2
     returns)

@@ -1,100 +1,124 @@
--- `drafting::settling::common_on` meets its contract: what is left is common to the drafts passed, and none
--- outside their level has the foot. Assumes nothing.
-use mathlib.Core.Path.{refl}
-use Prim.Native.Nat.{_-_, _≤_}
-use lib.ListN.{length}
+use mathlib.Core.Path.{_≡_, refl, sym, ap, ap₂, subst, _∙_}
+use mathlib.Core.Logic.{inl, inr, ⊎-elim}
+use mathlib.Core.List.{List}
+use Prim.Native.Nat.{ℕ, _+_, _-_, _*_, _≤_, _<_}
+use lib.ListN.{length, take, drop, getD, set, length-set}
 use native.Mathlib.Omega.{arith}
-use Rattle.drafting.specs.Drafts.{Reads}
+use native.Mathlib.Numerals.{add-one}
+use Rattle.standing.specs.Bytes.{countOf}
+use Rattle.standing.specs.Numbers.{startOf, levelOf}
+use Rattle.drafting.proofs.Groups.{draft-lies, common-none, Narrowing, narrowing-start, narrowing-more, common-some}
 use borrow.Author.Needs.{needs}
-use Rattle.drafting.proofs.Groups.{holds, holds-place, common-none, Narrowing, narrowing-start, narrowing-more}
-use Rattle.drafting.proofs.Ranks.{level-none, level-some}
 use Rattle.drafting.proofs.settling.common_on.Statement.{statement}
 use Rattle.drafting.proofs.settling.common_on.Tie as tie
+use Rattle.drafting.proofs.settling.common_on.Reads as reads
+use Rattle.drafting.proofs.settling.common_on.Lts as lts
+use Rattle.drafting.proofs.room.start.Reads as room-start-reads
+use Rattle.drafting.proofs.settling.narrowed.Reads as narrowed-reads
+use Rattle.links.proofs.count.Reads as count-reads
+use Rattle.links.proofs.foot.Reads as foot-reads
+use Rattle.links.proofs.levels.first_on.Reads as first-on-reads
+use Rattle.links.proofs.levels.start.Reads as levels-start-reads
+use Rattle.links.proofs.long.Reads as long-reads
 
 abbrev Inv-loop : tie.InvT-loop
-Inv-loop work order n ends foot level end first slot length₀ i₀ length i =
-    (end ≤ 64) × (end ≤ n) × Narrowing work order end foot slot i length
+Inv-loop work starts foot first end at length₀ i₀ length i =
+    (end ≡ startOf starts (levelOf foot + 1)) × (end ≤ countOf work) × (countOf work ≤ 64) × Narrowing work foot at i length
 
 abbrev μ-loop : tie.MeasureT-loop
-μ-loop work order n ends foot level end first slot length₀ i₀ length i = end - i
+μ-loop work starts foot first end at length₀ i₀ length i = end - i
 
-start-requires : tie.Need-start-requires Inv-loop μ-loop
-start-requires c κs = omega (arith, c .pre .1 .low)
-
-add-start : tie.Need-add-start Inv-loop μ-loop
-add-start c = omega (arith, c .before .pre .1 .low)
-
-start-requires-2 : tie.Need-start-requires-2 Inv-loop μ-loop
-start-requires-2 c κs = omega (arith, c .before .pre .1 .low)
-
--- the drafts up to the level's end
-reads : (c : tie.After-start Inv-loop μ-loop)
-    → let args = c .before .args in
-    Reads (args .work .now) (args .order .now) (c .start .result)
-reads c =
-    let pre = c .before .pre in
-    record { all = pre .0 .all; within = omega (arith, pre .0 .within, pre .1 .within); drafts = pre .0 .drafts }
-
-few : (c : tie.After-start Inv-loop μ-loop) → c .start .result ≤ 64
-few c = let r = reads c in omega (arith, r .within, r .drafts .few)
-
+-- src/settling.rt:48:9
 first-on-requires : tie.Need-first-on-requires Inv-loop μ-loop
-first-on-requires c κs =
-    let one = c .before .before .pre .1 in
-    (reads (c .before), λ k a l e. omega (arith, one .after k (omega (arith, one .within)) e))
+first-on-requires c κs = search needs
 
+-- src/settling.rt:49:17
+count-requires : tie.Need-count-requires Inv-loop μ-loop
+count-requires c κs = search needs
+
+-- src/settling.rt:50:9
 returns : tie.Need-returns Inv-loop μ-loop
 returns c =
-    let after-first = c .before .before in
-    let after-start = after-first .before .before in
-    let told = after-first .first-on .ensures in
-    let none = level-none (after-start .before .pre .1) (after-start .start .ensures) told (c .before .if1 .taken) in
-    common-none none refl (c .slot .ensures .0)
+    let told = c .before .before .before .first-on .ensures in
+    common-none _ told (c .if1 .taken ∙ c .before .count .ensures .0 .0)
 
-slot-requires-2 : tie.Need-slot-requires-2 Inv-loop μ-loop
-slot-requires-2 c κs = omega (arith, c .before .first-on .ensures .within, few (c .before .before .before))
+-- src/settling.rt:52:37
+-- one is found
+abbrev begin : tie.Else1 Inv-loop μ-loop → tie.Start Inv-loop μ-loop
+begin c = c .before .before .before .before .before
 
-length-requires : tie.Need-length-requires Inv-loop μ-loop
-length-requires c κs =
-    let after-first = c .before .before in
-    let h = after-first .first-on .ensures .within in
-    holds (reads (after-first .before .before)) (omega arith) (c .slot2 .ensures .0) .within
+few : (c : tie.Else1 Inv-loop μ-loop) → countOf (begin c .args .work .now) ≤ 64
+few c = begin c .pre .0 .few
 
+found : (c : tie.Else1 Inv-loop μ-loop)
+    → c .before .before .before .first-on .result < countOf (begin c .args .work .now)
+found c =
+    omega (arith, c .before .before .before .first-on .ensures .within, c .before .count .ensures .0 .0, c .if1 .left)
+
+add-start : tie.Need-add-start Inv-loop μ-loop
+add-start c = search needs
+
+-- src/settling.rt:52:9
+start-requires : tie.Need-start-requires Inv-loop μ-loop
+start-requires c κs = search needs
+
+-- src/settling.rt:53:9
+start-requires-2 : tie.Need-start-requires-2 Inv-loop μ-loop
+start-requires-2 c κs = omega (arith, found (c .before), few (c .before))
+
+-- src/settling.rt:54:9
+long-requires : tie.Need-long-requires Inv-loop μ-loop
+long-requires c κs = (omega arith, omega (arith, found (c .before .before .before), few (c .before .before .before)))
+
+-- src/settling.rt:55:17
 add-i : tie.Need-add-i Inv-loop μ-loop
-add-i c =
-    let after-first = c .before .before .before in
-    omega (arith, after-first .first-on .ensures .within, few (after-first .before .before))
+add-i c = omega (arith, found (c .before .before .before .before), few (c .before .before .before .before))
 
+-- src/settling.rt:56:5
 loop-holds : tie.Need-loop-holds Inv-loop μ-loop
 loop-holds c =
-    let after-slot = c .before in
-    let after-first = after-slot .before .before in
-    let after-start = after-first .before .before in
-    let told = after-first .first-on .ensures in
-    let h = told .within in (
-      few after-start,
-      omega (arith, after-start .before .pre .1 .within),
-      narrowing-start told (omega arith) (after-slot .slot2 .ensures .0) (c .length .ensures .0),
+    let after-start2 = c .before .before in
+    let after-start = after-start2 .before in
+    let else1 = after-start .before in
+    let v = begin else1 .pre .1 in
+    let e = after-start .start .ensures in (
+      e,
+      omega (arith, v .within (levelOf (begin else1 .args .foot) + 1)),
+      few else1,
+      narrowing-start _ (else1 .before .before .before .first-on .ensures) (begin else1 .pre .0) (found else1)
+          (after-start2 .start2 .ensures .0) (c .long .ensures .0),
     )
 
+
+-- src/settling.rt:58:13
 narrowed-requires : tie.Need-narrowed-requires Inv-loop μ-loop
 narrowed-requires c κs =
-    let at-loop = c .before .before in
-    let r = reads (at-loop .before .before .before .before .before .before) in
-    let inv = at-loop .loop .inv .2 in
-    (holds r (omega arith) (c .slot3 .ensures .0), holds-place r (inv .place), inv .short)
+    let at-loop = c .before in
+    let inv = at-loop .loop .inv in
+    let d = begin (at-loop .before .before .before .before .before) .pre .0 in
+    (omega arith, draft-lies d _ (omega arith), inv .3 .lies)
 
+-- src/settling.rt:60:9
+add-i-2 : tie.Need-add-i-2 Inv-loop μ-loop
+add-i-2 c = search needs
+
+-- src/settling.rt:56:5
+loop-less : tie.Need-loop-less Inv-loop μ-loop
+loop-less c = search needs
+
+-- src/settling.rt:56:5
 loop-again : tie.Need-loop-again Inv-loop μ-loop
 loop-again c =
-    let after-slot = c .before in
-    let inv = after-slot .before .before .loop .inv in
-    (inv .0, inv .1, narrowing-more (inv .2) (omega arith) (after-slot .slot3 .ensures .0) (c .narrowed .ensures))
+    let inv = c .before .before .loop .inv in
+    (inv .0, inv .1, inv .2, narrowing-more (inv .3) (omega arith) (c .narrowed .ensures))
 
+-- src/settling.rt:44:1
 returns-2 : tie.Need-returns-2 Inv-loop μ-loop
 returns-2 c =
     let at-loop = c .before in
-    let after-start = at-loop .before .before .before .before .before .before in
-    level-some (after-start .before .pre .1) (after-start .start .ensures) (at-loop .loop .inv .2) (omega arith)
+    let v = begin (at-loop .before .before .before .before .before) .pre .1 in
+    let inv = at-loop .loop .inv in
+    common-some v (inv .3) (omega arith)
 
 pub common-on-spec : {M : Type 1} → statement M
 common-on-spec =
@@ -102,19 +126,17 @@ common-on-spec =
     (tie.spec
     Inv-loop
     μ-loop
-    start-requires
-    add-start
-    start-requires-2
     first-on-requires
-    (λ c κs. search needs)
+    count-requires
     returns
-    slot-requires-2
-    length-requires
+    add-start
+    start-requires
+    start-requires-2
+    long-requires
     add-i
     loop-holds
-    (λ c κs. search needs)
     narrowed-requires
-    (λ c. search needs)
-    (λ c. search needs)
+    add-i-2
+    loop-less
     loop-again
     returns-2)

@@ -1,44 +1,69 @@
--- `drafting::settling::push` meets its contract: those before i are pushed. Assumes nothing.
-use Prim.Native.Nat.{_-_, _<_}
+use mathlib.Core.Path.{_≡_, refl, sym, ap, ap₂, subst, _∙_}
+use mathlib.Core.Logic.{inl, inr, ⊎-elim}
+use mathlib.Core.List.{List}
+use Prim.Native.Nat.{ℕ, _+_, _-_, _*_, _≤_, _<_}
+use lib.ListN.{length, take, drop, getD, set, length-set}
 use native.Mathlib.Omega.{arith}
-use Rattle.drafting.specs.Drafts.{Ranked}
-use Rattle.drafting.proofs.Ranks.{on-seat, ranked-pushed}
+use native.Mathlib.Numerals.{add-one}
+use Rattle.drafting.proofs.Pushing.{Pushing, same-levelled, pushing-start, pushing-in, pushing-room, pushing-more, pushing-all}
 use borrow.Author.Needs.{needs}
-use Rattle.drafting.proofs.Pushing.{Pushing, pushing-start, pushing-reads, pushing-room, pushing-more}
-use Rattle.drafting.proofs.Pushing.{pushing-all}
 use Rattle.drafting.proofs.settling.push.Statement.{statement}
 use Rattle.drafting.proofs.settling.push.Tie as tie
+use Rattle.drafting.proofs.settling.push.Reads as reads
+use Rattle.drafting.proofs.settling.push.Lts as lts
+use Rattle.drafting.proofs.settling.push_one.Reads as push-one-reads
+use Rattle.links.proofs.count.Reads as count-reads
 
 abbrev Inv-loop : tie.InvT-loop
-Inv-loop work₀ order n ends handed₀ i₀ work handed i =
-    Pushing work₀ order n i work handed × Ranked work order n ends
+Inv-loop work₀ starts i₀ work i = Pushing work₀ i work
 
 abbrev μ-loop : tie.MeasureT-loop
-μ-loop work₀ order n ends handed₀ i₀ work handed i = n - i
+μ-loop work₀ starts i₀ work i = i
 
+-- src/settling.rt:100:9
+count-requires : tie.Need-count-requires Inv-loop μ-loop
+count-requires c κs = search needs
+
+-- src/settling.rt:101:5
 loop-holds : tie.Need-loop-holds Inv-loop μ-loop
-loop-holds c = (pushing-start _ (c .pre .0 .0), c .pre .1)
+loop-holds c = pushing-start (c .before .before .before .pre .0) (c .count .ensures .0 .0)
 
+-- src/settling.rt:102:9
+sub-i : tie.Need-sub-i Inv-loop μ-loop
+sub-i c = search needs
+
+-- src/settling.rt:103:9
 push-one-requires : tie.Need-push-one-requires Inv-loop μ-loop
 push-one-requires c κs =
-    let at-loop = c .before .before .before in
-    let inv = at-loop .loop .inv in
-    let lt : at-loop .loop .i < at-loop .before .args .n = omega arith in
-    let one = on-seat (inv .0 .drafts) (inv .1) _ lt (at-loop .loop .i) (omega arith) (omega arith) in
-    (pushing-reads (inv .0) lt, (one, pushing-room (inv .0) lt (at-loop .before .pre .0 .1)))
+    let at-loop = c .before .before in
+    let g = at-loop .loop .inv in
+    let pre = at-loop .before .before .before .before .pre in (
+      (g .drafts, same-levelled (g .links) (pre .1), pushing-in _ g (omega arith)),
+      pushing-room _ g (omega arith) (pre .2),
+    )
 
+-- src/settling.rt:101:5
+loop-less : tie.Need-loop-less Inv-loop μ-loop
+loop-less c = search needs
+
+-- src/settling.rt:101:5
 loop-again : tie.Need-loop-again Inv-loop μ-loop
-loop-again c =
-    let e = c .push-one .ensures in
-    let at-loop = c .before .before .before .before in
-    let inv = at-loop .loop .inv in
-    let lt : at-loop .loop .i < at-loop .before .args .n = omega arith in
-    (pushing-more (inv .0) lt (e .0) (e .1 .1) (e .1 .0), ranked-pushed (inv .0 .drafts) lt (inv .1) (e .0))
+loop-again c = pushing-more _ (c .before .before .before .loop .inv) (omega arith) (c .push-one .ensures)
 
+-- src/settling.rt:96:1
 returns : tie.Need-returns Inv-loop μ-loop
-returns c = let inv = c .before .loop .inv in (pushing-all (inv .0) (omega arith), inv .1)
+returns c = pushing-all (c .before .loop .inv) (omega arith)
 
 pub push-spec : {M : Type 1} → statement M
 push-spec =
     tie.close
-    (tie.spec Inv-loop μ-loop loop-holds push-one-requires (λ c. search needs) (λ c. search needs) loop-again returns)
+    (tie.spec
+    Inv-loop
+    μ-loop
+    count-requires
+    loop-holds
+    sub-i
+    push-one-requires
+    loop-less
+    loop-again
+    returns)

@@ -1,67 +1,122 @@
--- `drafting::settling::push_one` meets its contract: what is put at the end is what was asked for. Assumes nothing.
-use mathlib.Core.Path.{sym, _∙_, ap}
-use mathlib.Core.Logic.{⊎-elim}
-use Prim.Native.Nat.{ℕ}
-use lib.ListN.{set}
+use mathlib.Core.Path.{_≡_, refl, sym, ap, ap₂, subst, _∙_}
+use mathlib.Core.Logic.{inl, inr, ⊎-elim}
+use mathlib.Core.List.{List}
+use Prim.Native.Nat.{ℕ, _+_, _-_, _*_, _≤_, _<_}
+use lib.ListN.{length, take, drop, getD, set, length-set}
 use native.Mathlib.Omega.{arith}
+use native.Mathlib.Numerals.{add-one}
+use Rattle.links.specs.Heads.{withLength}
+use Rattle.links.proofs.Levelled.{seat-low}
+use Rattle.drafting.proofs.Pushing.{endOf, has-room, end-fits, disjoint, pushed-one}
 use borrow.Author.Needs.{needs}
-use Rattle.standing.specs.Numbers.{seatFrom}
-use Rattle.drafting.specs.Drafts.{slotStart}
-use Rattle.drafting.proofs.Groups.{holds}
-use Rattle.drafting.proofs.Pushing.{reads-less, own-holds, their-holds, not-own, has-room, above-length}
-use Rattle.drafting.proofs.Pushing.{pushed-none, pushed-some}
 use Rattle.drafting.proofs.settling.push_one.Statement.{statement}
 use Rattle.drafting.proofs.settling.push_one.Tie as tie
+use Rattle.drafting.proofs.settling.push_one.Reads as reads
+use Rattle.drafting.proofs.settling.push_one.Lts as lts
+use Rattle.drafting.proofs.room.set_handed.Reads as set-handed-reads
+use Rattle.drafting.proofs.room.start.Reads as start-reads
+use Rattle.drafting.proofs.settling.common_on.Reads as common-on-reads
+use Rattle.drafting.proofs.settling.copy_within.Reads as copy-within-reads
+use Rattle.links.proofs.long.Reads as long-reads
+use Rattle.links.proofs.seat.Reads as seat-reads
+use Rattle.links.proofs.set_length.Reads as set-length-reads
 
+-- src/settling.rt:84:9
 seat-requires : tie.Need-seat-requires
-seat-requires c κs = holds (c .before .before .pre .0) (omega arith) (c .before .slot .ensures .0) .within
+seat-requires c κs = search needs
 
+-- src/settling.rt:85:9
 common-on-requires : tie.Need-common-on-requires
 common-on-requires c κs =
-    let after-slot = c .before .before in
-    let args = after-slot .before .args in
-    let pre = after-slot .before .pre in
-    let seat = c .seat .ensures
-    ∙ ap (λ (s : ℕ). seatFrom (args .work .now) (slotStart s)) (after-slot .slot .ensures .0) in
-    (reads-less (pre .0), rw (← seat) at (pre .1 .0))
+    let seat = c .before in
+    let pre = seat .before .before .before .pre .0 in
+    (pre .0, pre .1, seat-low (pre .1) _ (pre .2) (seat .seat .ensures))
 
-append-requires : tie.Need-append-requires
-append-requires c κs =
-    let after-common = c .before .before in
-    let after-seat = after-common .before in
-    let after-slot = after-seat .before .before in
-    let pre = after-slot .before .pre in
-    let is = after-slot .slot .ensures .0 in
-    let at = after-seat .seat .ensures in
-    let common = after-common .common-on .ensures in
-    let p = c .before .if1 .taken in (
-      (own-holds (pre .0) is at common, their-holds (pre .0) is at common p, not-own (pre .0) is at common p),
-      (common .short, has-room (pre .0) is at common (pre .1 .1)),
+-- src/settling.rt:88:9
+long-requires : tie.Need-long-requires
+long-requires c κs = search needs
+
+-- src/settling.rt:89:15
+start-requires : tie.Need-start-requires
+start-requires c κs = search needs
+
+-- src/settling.rt:89:15
+add-end : tie.Need-add-end
+add-end c = search needs
+
+-- src/settling.rt:90:5
+copy-within-requires : tie.Need-copy-within-requires
+copy-within-requires c κs =
+    let start = c .before in
+    let long = start .before .before in
+    let common = long .before .before .before in
+    let seat = common .before .before in
+    let pre = seat .before .before .before .pre in
+    let on = common .common-on .ensures in
+    let at = seat .seat .ensures in
+    let e : start .start .result + long .long .result ≡ endOf (seat .before .before .before .args .work .now) (seat .before .before .before .args .i) =
+    omega (arith, start .start .ensures .0, long .long .ensures .0) in
+    let fits = end-fits (pre .0 .0) (pre .0 .1) (pre .0 .2) at on (pre .1) in (
+      (omega (arith, on .lies), omega arith),
+      rw e (disjoint (pre .0 .0) (pre .0 .1) (pre .0 .2) at on (pre .1)),
     )
 
+-- src/settling.rt:91:41
+add-set-length : tie.Need-add-set-length
+add-set-length c = search needs
+
+-- src/settling.rt:91:5
+set-length-requires : tie.Need-set-length-requires
+set-length-requires c κs =
+    let copy = c .before in
+    let start = copy .before .before in
+    let long = start .before .before in
+    let common = long .before .before .before in
+    let seat = common .before .before in
+    let pre = seat .before .before .before .pre in
+    let room =
+    has-room (pre .0 .0) (pre .0 .1) (pre .0 .2) (seat .seat .ensures) (common .common-on .ensures) (pre .1) in
+    (omega (arith, copy .copy-within .ensures .whole), omega (arith, pre .0 .0 .few), omega (arith, long .long .ensures .0))
+
+-- src/settling.rt:92:5
+set-handed-requires : tie.Need-set-handed-requires
+set-handed-requires c κs =
+    let common = c .before .before .before .before .before .before .before .before .before .before in
+    let pre = common .before .before .before .before .before .pre in
+    (omega (arith, pre .0 .0 .few, pre .0 .2), omega (arith, common .common-on .ensures .short))
+
+-- src/settling.rt:79:1
 returns : tie.Need-returns
 returns c =
-    let after-common = c .before .before in
-    let after-seat = after-common .before in
-    let after-slot = after-seat .before .before in
-    let pre = after-slot .before .pre in
-    let is = after-slot .slot .ensures .0 in
-    let at = after-seat .seat .ensures in
-    let common = after-common .common-on .ensures in
-    let args = after-slot .before .args in (
-      ⊎-elim (λ w. rw (w .3) (pushed-some (pre .0) is at common (pre .1 .1) (w .2 .ensures)))
-          (λ w. rw (w .1) (pushed-none (pre .0) is at common (omega (arith, w .0 .left)))) (c .before .if1 .came),
-      (ap (set (args .handed .now) (args .i)) (sym (above-length (pre .0) is at common)), omega arith),
-    )
+    let set-length = c .before .before in
+    let copy = set-length .before .before in
+    let start = copy .before .before in
+    let long = start .before .before in
+    let common = long .before .before .before in
+    let seat = common .before .before in
+    let begin = seat .before .before .before in
+    let pre = begin .pre in
+    let args = begin .args in
+    let many = common .common-on .result .length in
+    let e : start .start .result + long .long .result ≡ endOf (args .work .now) (args .i) =
+    omega (arith, start .start .ensures .0, long .long .ensures .0) in
+    pushed-one (pre .0 .0) (pre .0 .1) (pre .0 .2) (seat .seat .ensures) (common .common-on .ensures)
+    (set-length .set-length .last .0) (pre .1) (rw e at (copy .copy-within .ensures))
+    (set-length .set-length .ensures
+    ∙ ap (λ (k : ℕ). withLength (copy .copy-within .last .0) (args .i) (k + many)) (long .long .ensures .0))
+    (c .set-handed .ensures)
 
 pub push-one-spec : {M : Type 1} → statement M
 push-one-spec =
     tie.close
     (tie.spec
-    (λ c κs. search needs)
     seat-requires
     common-on-requires
-    append-requires
-    (λ c. search needs)
-    (λ c. search needs)
+    long-requires
+    start-requires
+    add-end
+    copy-within-requires
+    add-set-length
+    set-length-requires
+    set-handed-requires
     returns)

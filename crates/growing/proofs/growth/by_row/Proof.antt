@@ -8,6 +8,9 @@ use borrow.Author.Needs.{needs}
 use Rattle.growing.proofs.growth.by_row.Statement.{statement}
 use Rattle.growing.proofs.growth.by_row.Tie as tie
 
+fits-requires : tie.Need-fits-requires
+fits-requires c κs = search needs
+
 fitted : (c : tie.Then1)
     → let a = c .before .before .before .args in
     after (a .file .now) (a .session .now) (meant (a .class)) (a .i) (a .r)
@@ -19,12 +22,12 @@ fitted c =
 
 follow-requires : tie.Need-follow-requires
 follow-requires c κs =
-    let fits = c .before .before in
+    let fits = c .before in
     let pre = fits .before .before .before .pre in
     (pre .0, (pre .1 .0, fitting-as (pre .1 .1) (sym (fitted fits))))
 
 returns : tie.Need-returns
-returns c = gathers-as (c .follow .ensures) (fitted (c .before .before .before))
+returns c = gathers-as (c .follow .ensures) (fitted (c .before .before))
 
 returns-2 : tie.Need-returns-2
 returns-2 c =
@@ -34,4 +37,4 @@ returns-2 c =
     (c .before .fits2 .ensures) (c .if1 .left))
 
 pub by-row-spec : {M : Type 1} → statement M
-by-row-spec = tie.close (tie.spec (λ c κs. search needs) follow-requires returns returns-2)
+by-row-spec = tie.close (tie.spec fits-requires follow-requires returns returns-2)

@@ -13,16 +13,34 @@ use Rattle.growing.proofs.growth.by_rows.Statement.{statement}
 use Rattle.growing.proofs.growth.by_rows.Tie as tie
 
 abbrev Inv-loop : tie.InvT-loop
-Inv-loop file session symbol i work₀ order₀ class n state grown₀ r₀ work order grown r =
-    (r₀ ≤ r) × (r ≤ n) × Passing (byRow file session symbol i) work₀ order₀ grown₀ r work order grown
+Inv-loop file session symbol i work₀ class n state grown₀ r₀ work grown r =
+    (r₀ ≤ r) × (r ≤ n) × Passing (byRow file session symbol i) work₀ grown₀ r work grown
 
 abbrev μ-loop : tie.MeasureT-loop
-μ-loop file session symbol i work₀ order₀ class n state grown₀ r₀ work order grown r = n - r
+μ-loop file session symbol i work₀ class n state grown₀ r₀ work grown r = n - r
+
+level-requires : tie.Need-level-requires Inv-loop μ-loop
+level-requires c κs = search needs
+
+depth-requires : tie.Need-depth-requires Inv-loop μ-loop
+depth-requires c κs = search needs
 
 returns : tie.Need-returns Inv-loop μ-loop
 returns c =
     let a = c .before .before .before .before .args in
     gathers-as gathers-none (rows-none (a .file .now) (a .session .now) (a .symbol) (a .i) (λ e. omega arith))
+
+class-of-requires : tie.Need-class-of-requires Inv-loop μ-loop
+class-of-requires c κs = search needs
+
+row-count-requires : tie.Need-row-count-requires Inv-loop μ-loop
+row-count-requires c κs = search needs
+
+state-requires : tie.Need-state-requires Inv-loop μ-loop
+state-requires c κs = search needs
+
+first-row-requires : tie.Need-first-row-requires Inv-loop μ-loop
+first-row-requires c κs = search needs
 
 loop-holds : tie.Need-loop-holds Inv-loop μ-loop
 loop-holds c =
@@ -32,6 +50,12 @@ loop-holds c =
       omega (arith, first .within),
       rows-start (a .file .now) (a .session .now) (a .symbol) (a .i) (c .before .state .ensures .0) first,
     )
+
+row-symbol-requires : tie.Need-row-symbol-requires Inv-loop μ-loop
+row-symbol-requires c κs = search needs
+
+wide-requires : tie.Need-wide-requires Inv-loop μ-loop
+wide-requires c κs = search needs
 
 within : (c : tie.In-loop Inv-loop μ-loop)
     → let start = c .before .before .before .before .before .before .before .before .before .before in
@@ -45,8 +69,8 @@ stopped : (c : tie.In-loop Inv-loop μ-loop)
     let a = known .before .before .before .before .before .before .before .args in
     let r = rowAt (a .file .now) (at-loop .loop .r) in
     (r .symbol ≡ a .symbol → r .from ≡ known .state .result → ⊥)
-    → Gathers (byRows (a .file .now) (a .session .now) (a .symbol) (a .i)) (a .work .now) (a .order .now) (a .growth)
-    (at-loop .loop .grown) (at-loop .loop .work) (at-loop .loop .order)
+    → Gathers (byRows (a .file .now) (a .session .now) (a .symbol) (a .i)) (a .work .now) (a .growth)
+    (at-loop .loop .grown) (at-loop .loop .work)
 stopped c other =
     let at-loop = c .before in
     let known = at-loop .before .before in
@@ -59,6 +83,9 @@ stopped c other =
 
 returns-2 : tie.Need-returns-2 Inv-loop μ-loop
 returns-2 c = stopped (c .before .before .before) (λ s t. omega arith)
+
+row-from-requires : tie.Need-row-from-requires Inv-loop μ-loop
+row-from-requires c κs = search needs
 
 returns-3 : tie.Need-returns-3 Inv-loop μ-loop
 returns-3 c = stopped (c .before .before .before .before .before) (λ s t. omega arith)
@@ -79,7 +106,7 @@ taken c =
 
 by-row-requires : tie.Need-by-row-requires Inv-loop μ-loop
 by-row-requires c κs =
-    let has = c .before .before .before .before in
+    let has = c .before .before .before in
     let in-loop = has .before .before .before in
     let at-loop = in-loop .before in
     let start = at-loop .before .before .before .before .before .before .before .before .before in
@@ -91,9 +118,15 @@ by-row-requires c κs =
       (passing-ready (at-loop .loop .inv .2) (pre .1 .0), fitting-as fitting (sym (taken has))),
     )
 
+add-r : tie.Need-add-r Inv-loop μ-loop
+add-r c = search needs
+
+loop-less : tie.Need-loop-less Inv-loop μ-loop
+loop-less c = search needs
+
 loop-again : tie.Need-loop-again Inv-loop μ-loop
 loop-again c =
-    let has = c .before .before .before .before .before in
+    let has = c .before .before .before .before in
     let made = gathers-as (c .by-row .ensures) (taken has) in
     let passed = has .before .before .before .before .loop .inv .2 in
     (omega arith, omega arith, passing-next passed made)
@@ -112,21 +145,21 @@ by-rows-spec =
     (tie.spec
     Inv-loop
     μ-loop
-    (λ c κs. search needs)
-    (λ c κs. search needs)
+    level-requires
+    depth-requires
     returns
-    (λ c κs. search needs)
-    (λ c κs. search needs)
-    (λ c κs. search needs)
-    (λ c κs. search needs)
+    class-of-requires
+    row-count-requires
+    state-requires
+    first-row-requires
     loop-holds
-    (λ c κs. search needs)
-    (λ c κs. search needs)
+    row-symbol-requires
+    wide-requires
     returns-2
-    (λ c κs. search needs)
+    row-from-requires
     returns-3
     by-row-requires
-    (λ c. search needs)
-    (λ c. search needs)
+    add-r
+    loop-less
     loop-again
     returns-4)

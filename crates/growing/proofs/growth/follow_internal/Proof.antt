@@ -1,5 +1,8 @@
 -- `growing::growth::follow_internal` meets its contract. Assumes nothing.
-use mathlib.Core.Path.{ap}
+use mathlib.Core.Path.{_∙_, ap}
+use Prim.Native.Nat.{ℕ}
+use Rattle.standing.specs.Bytes.{linkAt}
+use Rattle.stepping.specs.Stepping.{movedTo}
 use mathlib.Core.List.{_++_, append-nil}
 use lib.ListN.{length, length-append}
 use native.Mathlib.Omega.{arith}
@@ -9,6 +12,9 @@ use Rattle.table.proofs.Passed.{good-word}
 use borrow.Author.Needs.{needs}
 use Rattle.growing.proofs.growth.follow_internal.Statement.{statement}
 use Rattle.growing.proofs.growth.follow_internal.Tie as tie
+
+row-to-requires : tie.Need-row-to-requires
+row-to-requires c κs = search needs
 
 moved-requires : tie.Need-moved-requires
 moved-requires c κs =
@@ -21,34 +27,44 @@ piece-requires c κs = let pre = c .before .before .before .pre in piece-stands 
 row-word-requires : tie.Need-row-word-requires
 row-word-requires c κs = let pre = c .before .before .before .before .pre in good-word _ _ (pre .0 .0 .good) (pre .0 .2)
 
+sub-add : tie.Need-sub-add
+sub-add c = search needs
+
+part-add-start : tie.Need-part-add-start
+part-add-start c = search needs
+
+part-add-end : tie.Need-part-add-end
+part-add-end c = search needs
+
 add-requires : tie.Need-add-requires
 add-requires c κs =
-    let read = c .before .before .before in
+    let read = c .before .before in
     let pre = read .before .before .before .before .before .pre in
     let piece = ap length (read .before .piece .ensures) in
     let word = ap length (read .row-word .ensures) in
     let room = simp length-append at (fitting-only (pre .1 .1) .1) in
-    (pre .1 .0, (read .before .before .moved .ensures .1, omega arith))
+    ((pre .1 .0, read .before .before .moved .ensures .clean), omega arith)
 
 returns : tie.Need-returns
 returns c =
-    let read = c .before .before .before .before in
+    let read = c .before .before .before in
     let moved = read .before .before in
     let pre = moved .before .before .before .pre in
-    added (c .add .ensures) (fitting-only (pre .1 .1) .0)
-    (omega (arith, moved .moved .ensures, moved .before .row-to .ensures))
+    let args = moved .before .before .before .args in
+    added (c .add .ensures)
+    (moved .moved .ensures .is ∙ ap (λ (q : ℕ). movedTo q (linkAt (args .session .now) (args .i))) (moved .before .row-to .ensures))
     (simp append-nil (λ i. read .before .piece .ensures i ++ read .row-word .ensures i))
 
 pub follow-internal-spec : {M : Type 1} → statement M
 follow-internal-spec =
     tie.close
     (tie.spec
-    (λ c κs. search needs)
+    row-to-requires
     moved-requires
     piece-requires
     row-word-requires
-    (λ c. search needs)
-    (λ c. search needs)
-    (λ c. search needs)
+    sub-add
+    part-add-start
+    part-add-end
     add-requires
     returns)

@@ -9,14 +9,23 @@ use Rattle.growing.proofs.growth.follow_return.Statement.{statement}
 use Rattle.growing.proofs.growth.follow_return.Tie as tie
 
 abbrev Inv-loop : tie.InvT-loop
-Inv-loop file session i r work₀ order₀ n level grown₀ j₀ work order grown j =
-    (j ≤ n) × Passing (uncovered file session i r) work₀ order₀ grown₀ j work order grown
+Inv-loop file session i r work₀ n level grown₀ j₀ work grown j =
+    (j ≤ n) × Passing (uncovered file session i r) work₀ grown₀ j work grown
 
 abbrev μ-loop : tie.MeasureT-loop
-μ-loop file session i r work₀ order₀ n level grown₀ j₀ work order grown j = n - j
+μ-loop file session i r work₀ n level grown₀ j₀ work grown j = n - j
+
+count-requires : tie.Need-count-requires Inv-loop μ-loop
+count-requires c κs = search needs
+
+level-requires : tie.Need-level-requires Inv-loop μ-loop
+level-requires c κs = search needs
 
 loop-holds : tie.Need-loop-holds Inv-loop μ-loop
 loop-holds c = (omega arith, passing-start)
+
+level-requires-2 : tie.Need-level-requires-2 Inv-loop μ-loop
+level-requires-2 c κs = search needs
 
 returns : tie.Need-returns Inv-loop μ-loop
 returns c =
@@ -28,7 +37,7 @@ returns c =
 
 uncover-requires : tie.Need-uncover-requires Inv-loop μ-loop
 uncover-requires c κs =
-    let at-loop = c .before .before .before .before .before in
+    let at-loop = c .before .before .before .before in
     let start = at-loop .before .before .before .before in
     let a = start .args in
     let pre = start .pre in
@@ -40,9 +49,15 @@ uncover-requires c κs =
       ),
     )
 
+add-j : tie.Need-add-j Inv-loop μ-loop
+add-j c = search needs
+
+loop-less : tie.Need-loop-less Inv-loop μ-loop
+loop-less c = search needs
+
 loop-again : tie.Need-loop-again Inv-loop μ-loop
 loop-again c =
-    let at-loop = c .before .before .before .before .before .before in
+    let at-loop = c .before .before .before .before .before in
     (omega arith, passing-next (at-loop .loop .inv .1) (c .uncover .ensures))
 
 returns-2 : tie.Need-returns-2 Inv-loop μ-loop
@@ -57,13 +72,13 @@ follow-return-spec =
     (tie.spec
     Inv-loop
     μ-loop
-    (λ c κs. search needs)
-    (λ c κs. search needs)
+    count-requires
+    level-requires
     loop-holds
-    (λ c κs. search needs)
+    level-requires-2
     returns
     uncover-requires
-    (λ c. search needs)
-    (λ c. search needs)
+    add-j
+    loop-less
     loop-again
     returns-2)

@@ -10,21 +10,27 @@ use Rattle.growing.proofs.growth.grow.Statement.{statement}
 use Rattle.growing.proofs.growth.grow.Tie as tie
 
 abbrev Inv-loop : tie.InvT-loop
-Inv-loop file session symbol work₀ order₀ n grown₀ i₀ work order grown i =
-    (i ≤ n) × Passing (byRows file session symbol) work₀ order₀ grown₀ i work order grown
+Inv-loop file session symbol work₀ n grown₀ i₀ work grown i =
+    (i ≤ n) × Passing (byRows file session symbol) work₀ grown₀ i work grown
 
 abbrev μ-loop : tie.MeasureT-loop
-μ-loop file session symbol work₀ order₀ n grown₀ i₀ work order grown i = n - i
+μ-loop file session symbol work₀ n grown₀ i₀ work grown i = n - i
+
+count-requires : tie.Need-count-requires Inv-loop μ-loop
+count-requires c κs = search needs
+
+nothing-requires : tie.Need-nothing-requires Inv-loop μ-loop
+nothing-requires c κs = search needs
 
 loop-holds : tie.Need-loop-holds Inv-loop μ-loop
 loop-holds c = (omega arith, passing-start)
 
 by-rows-requires : tie.Need-by-rows-requires Inv-loop μ-loop
 by-rows-requires c κs =
-    let start = c .before .before .before .before .before .before .before .before .before .before .before in
+    let start = c .before .before .before .before .before .before .before in
     let a = start .args in
-    let loop = c .before .before .before .loop in
-    let nothing = c .before .before .before .before .nothing .ensures in (
+    let loop = c .before .before .loop in
+    let nothing = c .before .before .before .nothing .ensures in (
       (start .pre .0, omega arith),
       (
         passing-ready (loop .inv .1) ([], nothing),
@@ -32,12 +38,18 @@ by-rows-requires c κs =
       ),
     )
 
+add-i : tie.Need-add-i Inv-loop μ-loop
+add-i c = search needs
+
+loop-less : tie.Need-loop-less Inv-loop μ-loop
+loop-less c = search needs
+
 loop-again : tie.Need-loop-again Inv-loop μ-loop
-loop-again c = (omega arith, passing-next (c .before .before .before .before .loop .inv .1) (c .by-rows .ensures))
+loop-again c = (omega arith, passing-next (c .before .before .before .loop .inv .1) (c .by-rows .ensures))
 
 returns : tie.Need-returns Inv-loop μ-loop
 returns c =
-    let a = c .before .before .before .before .before .before .before .before .before .args in
+    let a = c .before .before .before .before .before .before .args in
     grow-end (a .file .now) (a .session .now) (a .symbol) (c .before .loop .inv .1) (omega arith)
     (c .before .before .nothing .ensures)
 
@@ -47,11 +59,11 @@ grow-spec =
     (tie.spec
     Inv-loop
     μ-loop
-    (λ c κs. search needs)
-    (λ c κs. search needs)
+    count-requires
+    nothing-requires
     loop-holds
     by-rows-requires
-    (λ c. search needs)
-    (λ c. search needs)
+    add-i
+    loop-less
     loop-again
     returns)

@@ -1,5 +1,8 @@
 -- `growing::growth::uncover` meets its contract. Assumes nothing.
-use mathlib.Core.Path.{_≡_, sym, ap}
+use mathlib.Core.Path.{_≡_, sym, _∙_, ap}
+use Prim.Native.Nat.{ℕ}
+use Rattle.standing.specs.Bytes.{linkAt}
+use Rattle.stepping.specs.Stepping.{movedTo}
 use mathlib.Core.List.{[], _∷_, _++_}
 use lib.ListN.{length, length-append}
 use native.Mathlib.Omega.{arith}
@@ -10,6 +13,12 @@ use Rattle.table.proofs.Passed.{good-word}
 use borrow.Author.Needs.{needs}
 use Rattle.growing.proofs.growth.uncover.Statement.{statement}
 use Rattle.growing.proofs.growth.uncover.Tie as tie
+
+seat-requires : tie.Need-seat-requires
+seat-requires c κs = search needs
+
+foot-requires : tie.Need-foot-requires
+foot-requires c κs = search needs
 
 returns : tie.Need-returns
 returns c =
@@ -27,6 +36,9 @@ fitting : (c : tie.Else1)
     → let a = c .before .before .before .before .args in
     Fitting (lowered (a .file .now) (a .session .now) (a .i) (a .r) (a .j) ∷ [])
 fitting c = fitting-as (c .before .before .before .before .pre .1 .1) (sym (met c))
+
+row-to-requires : tie.Need-row-to-requires
+row-to-requires c κs = search needs
 
 moved-requires : tie.Need-moved-requires
 moved-requires c κs =
@@ -51,23 +63,24 @@ row-word-requires c κs =
 
 add-requires : tie.Need-add-requires
 add-requires c κs =
-    let read = c .before .before in
+    let read = c .before in
     let moved = read .before .before .before in
     let lower = ap length (read .before .before .piece .ensures) in
     let upper = ap length (read .before .piece2 .ensures) in
     let word = ap length (read .row-word .ensures) in
     let room = simp length-append at (fitting-only (fitting (moved .before .before)) .1) in
-    (moved .before .before .before .before .before .before .pre .1 .0, (moved .moved .ensures .1, omega arith))
+    ((moved .before .before .before .before .before .before .pre .1 .0, moved .moved .ensures .clean), omega arith)
 
 returns-2 : tie.Need-returns-2
 returns-2 c =
-    let read = c .before .before .before in
+    let read = c .before .before in
     let lower = read .before .before in
     let moved = lower .before in
     let left = moved .before .before in
+    let args = left .before .before .before .before .args in
     gathers-as
-    (added (c .add .ensures) (fitting-only (fitting left) .0)
-    (omega (arith, moved .moved .ensures, moved .before .row-to .ensures))
+    (added (c .add .ensures)
+    (moved .moved .ensures .is ∙ ap (λ (q : ℕ). movedTo q (linkAt (args .session .now) (args .j))) (moved .before .row-to .ensures))
     (λ i. lower .piece .ensures i ++ read .before .piece2 .ensures i ++ read .row-word .ensures i))
     (met left)
 
@@ -75,10 +88,10 @@ pub uncover-spec : {M : Type 1} → statement M
 uncover-spec =
     tie.close
     (tie.spec
-    (λ c κs. search needs)
-    (λ c κs. search needs)
+    seat-requires
+    foot-requires
     returns
-    (λ c κs. search needs)
+    row-to-requires
     moved-requires
     piece-requires
     piece-requires-2

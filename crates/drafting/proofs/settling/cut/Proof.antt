@@ -1,0 +1,99 @@
+use mathlib.Core.Path.{_≡_, refl, sym, ap, _∙_}
+use mathlib.Core.Logic.{inl, inr, ⊎-elim}
+use Prim.Native.Nat.{ℕ, _+_, _-_, _*_, _≤_, _<_}
+use lib.ListN.{length, take, drop, getD, set, length-set}
+use native.Mathlib.Omega.{arith}
+use native.Mathlib.Numerals.{add-one}
+use Rattle.standing.specs.Bytes.{countOf}
+use Rattle.drafting.specs.Drafts.{CutTo}
+use Rattle.drafting.proofs.Pushing.{same-levelled, same-count}
+use Rattle.drafting.proofs.Cut.{cut-start, turn-fits, turn-next}
+use borrow.Author.Needs.{needs}
+use Rattle.drafting.proofs.settling.cut.Statement.{statement}
+use Rattle.drafting.proofs.settling.cut.Tie as tie
+use Rattle.drafting.proofs.settling.cut.Reads as reads
+use Rattle.drafting.proofs.settling.cut.Lts as lts
+use Rattle.drafting.proofs.settling.cut_by.Reads as cut-by-reads
+use Rattle.drafting.proofs.settling.cut_one.Reads as cut-one-reads
+use Rattle.links.proofs.count.Reads as count-reads
+
+abbrev Inv-loop : tie.InvT-loop
+Inv-loop work₀ starts sent n i₀ work i = (i ≤ n) × (n ≡ countOf work₀) × (n ≤ 64) × CutTo work₀ i work
+
+abbrev μ-loop : tie.MeasureT-loop
+μ-loop work₀ starts sent n i₀ work i = n - i
+
+-- src/settling.rt:138:9
+count-requires : tie.Need-count-requires Inv-loop μ-loop
+count-requires c κs = search needs
+
+-- src/settling.rt:140:5
+loop-holds : tie.Need-loop-holds Inv-loop μ-loop
+loop-holds c =
+    let start = c .before .before .before in
+    let d = start .pre .0 .drafts in
+    let e = c .count .ensures .0 .0 in
+    (omega arith, e, omega (arith, d .few), cut-start _)
+
+-- src/settling.rt:141:13
+abbrev begin : tie.At-loop Inv-loop μ-loop → tie.Start Inv-loop μ-loop
+begin c = c .before .before .before .before
+
+cut-by-requires : tie.Need-cut-by-requires Inv-loop μ-loop
+cut-by-requires c κs =
+    let at-loop = c .before .before in
+    let inv = at-loop .loop .inv in
+    let l = inv .3 .links in
+    (same-levelled l (begin at-loop .pre .1), omega (arith, same-count l))
+
+-- src/settling.rt:142:9
+cut-one-requires : tie.Need-cut-one-requires Inv-loop μ-loop
+cut-one-requires c κs =
+    let cut-by = c .before in
+    let at-loop = cut-by .before .before .before in
+    let pre = begin at-loop .pre in
+    let fits = turn-fits (pre .0) (pre .1) (at-loop .loop .inv .3) (omega arith) (cut-by .cut-by .ensures) in
+    (omega arith, fits .0, fits .1)
+
+-- src/settling.rt:143:9
+add-i : tie.Need-add-i Inv-loop μ-loop
+add-i c = search needs
+
+-- src/settling.rt:140:5
+loop-less : tie.Need-loop-less Inv-loop μ-loop
+loop-less c = search needs
+
+-- src/settling.rt:140:5
+loop-again : tie.Need-loop-again Inv-loop μ-loop
+loop-again c =
+    let cut-by = c .before .before in
+    let at-loop = cut-by .before .before .before in
+    let inv = at-loop .loop .inv in
+    let pre = begin at-loop .pre in (
+      omega arith,
+      inv .1,
+      inv .2,
+      turn-next (pre .0) (pre .1) (inv .3) (omega arith) (cut-by .cut-by .ensures) (c .cut-one .ensures),
+    )
+
+-- src/settling.rt:134:1
+returns : tie.Need-returns Inv-loop μ-loop
+returns c =
+    let inv = c .before .loop .inv in
+    let e : c .before .loop .i ≡ countOf (begin (c .before) .args .work .now) = omega arith in
+    rw (← e) (inv .3)
+
+pub cut-spec : {M : Type 1} → statement M
+cut-spec =
+    tie.close
+    (tie.spec
+    Inv-loop
+    μ-loop
+    count-requires
+    loop-holds
+    cut-by-requires
+    cut-one-requires
+    add-i
+    loop-less
+    loop-again
+    returns)
