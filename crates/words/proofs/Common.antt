@@ -4,6 +4,7 @@ use mathlib.Core.Bool.{Bool, true, false, cond}
 use mathlib.Core.List.{List, [], _∷_, _++_, List·Memᴰ·head, List·Memᴰ·tail, List·Memᴰ·eq-of-singleton, map}
 use mathlib.Core.List.{append-assoc, append-nil, append-cancel-left, cons≢nil, head-eq-of-cons-eq, tail-eq-of-cons-eq}
 use mathlib.Core.List.{Memᴰ·append-left}
+use mathlib.Core.Logic.{_↔_}
 use Prim.Native.Nat.{ℕ}
 use lib.Dec.{eqb}
 use lib.ListN.{length, take, drop}
@@ -129,3 +130,13 @@ common-ahead z (x ∷ y ∷ l) m =
 pub common-all : {w : Word} (l : List Word) → w among l → ((v : Word) → v among l → v ≡ w) → common l ≡ w
 common-all {w} l m h =
     begins-same (common l) w (common-begins l m) (common-longest l m (λ v i. begins [] (append-nil w ∙ sym (h v i))))
+
+-- only which words are there matters, not their order or repetition
+pub common-same : (l k : List Word) → ((w : Word) → (w among l) ↔ (w among k)) → common l ≡ common k
+common-same [] [] h = refl
+common-same [] (x ∷ k) h = elim (h x .1 (List·Memᴰ·head refl)) [ ]
+common-same (x ∷ l) [] h = elim (h x .0 (List·Memᴰ·head refl)) [ ]
+common-same (x ∷ l) (y ∷ k) h =
+    begins-same (common (x ∷ l)) (common (y ∷ k))
+    (common-longest (y ∷ k) (List·Memᴰ·head refl) (λ w m. common-begins (x ∷ l) (h w .1 m)))
+    (common-longest (x ∷ l) (List·Memᴰ·head refl) (λ w m. common-begins (y ∷ k) (h w .0 m)))
