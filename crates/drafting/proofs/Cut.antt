@@ -184,9 +184,12 @@ module _ {work₀ work : List ℕ} {i : ℕ} (c : CutTo work₀ i work) (few : c
           let l : j < countOf work₀ = omega (arith, n, s .1) in
           let a = c .slots (handedStart j) (omega arith) in
           let b = c .slots (handedStart j + 1) (omega arith) in
-          inr
-          (j, l, sym (same-seat (c .links) j (omega arith)) ∙ s .2 ∙ same-foot (c .links) i (omega arith),
-          s .3 ∙ omega (arith, a, b))
+          inr (
+            j,
+            l,
+            sym (same-seat (c .links) j (omega arith)) ∙ s .2 ∙ same-foot (c .links) i (omega arith),
+            s .3 ∙ omega (arith, a, b),
+          )
 
   pub cut-next : {work′ : List ℕ} {many : ℕ} → CutOne work i many work′ → many ≡ length (besideOf work₀ i)
       → CutTo work₀ (i + 1) work′
@@ -329,10 +332,12 @@ module _ {work : List ℕ} (r : Ready work) where
         root i l (inl z) = inl (same-foot (p .links) i (omega (arith, few)) ∙ z)
         root i l (inr j) =
             let m = j .1 in
-            inr
-            (j .0, omega (arith, n),
-            same-seat (p .links) (j .0) (omega (arith, few)) ∙ j .2
-            ∙ sym (same-foot (p .links) i (omega (arith, few))))
+            inr (
+              j .0,
+              omega (arith, n),
+              same-seat (p .links) (j .0) (omega (arith, few)) ∙ j .2
+                  ∙ sym (same-foot (p .links) i (omega (arith, few))),
+            )
 
     module _ {done : List ℕ} (c : CutTo pushed (countOf pushed) done) where
       enough : (i : ℕ) → i < countOf pushed → length (besideOf pushed i) ≤ lengthAt pushed i

@@ -160,10 +160,11 @@ module _ {work : List ℕ} {foot at i long : ℕ} (g : Narrowing work foot at i 
         is = λ test p.
             let P = first-pieces work test i in
             let h = g .is test p in
-            rw (more-pieces work test i (p i lt ∙ eq-eqb (footAt work i) foot e))
-            (not-empty P (pieceIn work i),
-            common-last P (pieceIn work i) (h .0) ∙ ap (shared (pieceIn work i)) (h .1) ∙ s .1
-            ∙ ap (λ (k : ℕ). take k (drop at work)) (sym is));
+            rw (more-pieces work test i (p i lt ∙ eq-eqb (footAt work i) foot e)) (
+              not-empty P (pieceIn work i),
+              common-last P (pieceIn work i) (h .0) ∙ ap (shared (pieceIn work i)) (h .1) ∙ s .1
+                  ∙ ap (λ (k : ℕ). take k (drop at work)) (sym is),
+            );
       }
 
   pub narrowing-more : {long′ : ℕ} → Narrowed work i foot at long long′ → Narrowing work foot at (i + 1) long′

@@ -153,165 +153,165 @@ module _ {work starts : List ℕ} {i from many foot : ℕ} (d : Drafted work)
 
   module _ {one three : List ℕ} (two : List ℕ) (room : Room work i) (copy : Written work (endOf work i) (take many (drop from work)) one)
       (long : two ≡ withLength one i (lengthAt work i + many)) (hand : three ≡ withTwo two (handedStart i) many)
-      where
-    in-head : i < 64
-    in-head = omega (arith, d .few)
+    where
+      in-head : i < 64
+      in-head = omega (arith, d .few)
 
-    many-long : length (take many (drop from work)) ≡ many
-    many-long = common-length (d .whole) c
+      many-long : length (take many (drop from work)) ≡ many
+      many-long = common-length (d .whole) c
 
-    abbrev sum : ℕ
-    sum = lengthAt work i + many
+      abbrev sum : ℕ
+      sum = lengthAt work i + many
 
-    lengths : Pasted one (lengthStart i) (sum % 256 ∷ sum / 256 ∷ []) two
-    lengths = stored (omega (arith, copy .whole, d .whole)) long
+      lengths : Pasted one (lengthStart i) (sum % 256 ∷ sum / 256 ∷ []) two
+      lengths = stored (omega (arith, copy .whole, d .whole)) long
 
-    hands : Pasted two (handedStart i) (many % 256 ∷ many / 256 ∷ []) three
-    hands = stored (omega (arith, copy .whole, d .whole, lengths .whole)) hand
+      hands : Pasted two (handedStart i) (many % 256 ∷ many / 256 ∷ []) three
+      hands = stored (omega (arith, copy .whole, d .whole, lengths .whole)) hand
 
-    low : slotStart 0 ≤ whereAt work i
-    low = d .low i (omega arith) lt
+      low : slotStart 0 ≤ whereAt work i
+      low = d .low i (omega arith) lt
 
-    -- all but the length, what was handed down and the places behind the piece
-    other : (k : ℕ) → (k < lengthStart i) ⊎ (lengthStart i + 2 ≤ k) → (k < handedStart i) ⊎ (handedStart i + 2 ≤ k)
-        → (k < (endOf work i)) ⊎ ((endOf work i) + many ≤ k) → byte three k ≡ byte work k
-    other k a b e =
-        hands .others k b ∙ lengths .others k a ∙ copy .others k (⊎-elim inl (λ h. inr (omega (arith, many-long))) e)
+      -- all but the length, what was handed down and the places behind the piece
+      other : (k : ℕ) → (k < lengthStart i) ⊎ (lengthStart i + 2 ≤ k) → (k < handedStart i) ⊎ (handedStart i + 2 ≤ k)
+          → (k < (endOf work i)) ⊎ ((endOf work i) + many ≤ k) → byte three k ≡ byte work k
+      other k a b e =
+          hands .others k b ∙ lengths .others k a ∙ copy .others k (⊎-elim inl (λ h. inr (omega (arith, many-long))) e)
 
-    early : (k : ℕ) → k < slotStart 0 → (k < lengthStart i) ⊎ (lengthStart i + 2 ≤ k)
-        → (k < handedStart i) ⊎ (handedStart i + 2 ≤ k) → byte three k ≡ byte work k
-    early k h a b = other k a b (inl (omega (arith, low)))
+      early : (k : ℕ) → k < slotStart 0 → (k < lengthStart i) ⊎ (lengthStart i + 2 ≤ k)
+          → (k < handedStart i) ⊎ (handedStart i + 2 ≤ k) → byte three k ≡ byte work k
+      early k h a b = other k a b (inl (omega (arith, low)))
 
-    small : Bytes three
-    small =
-        let r = has-room room in
-        subst (λ (b : List ℕ). Bytes b) (sym hand)
-        (small-two two (handedStart i) many
-        (subst (λ (b : List ℕ). Bytes b) (sym long)
-        (small-two one (lengthStart i) sum (small-written (d .small) (small-part from many (d .small)) copy) (omega arith)))
-        (omega arith))
+      small : Bytes three
+      small =
+          let r = has-room room in
+          subst (λ (b : List ℕ). Bytes b) (sym hand)
+          (small-two two (handedStart i) many
+          (subst (λ (b : List ℕ). Bytes b) (sym long)
+          (small-two one (lengthStart i) sum (small-written (d .small) (small-part from many (d .small)) copy) (omega arith)))
+          (omega arith))
 
-    links : SameLinks work three
-    links =
-        record {
-          whole = hands .whole ∙ lengths .whole ∙ copy .whole;
-          small = λ h. small;
-          links = λ k h. early k (omega arith) (inl (omega arith)) (inl (omega arith));
-        }
+      links : SameLinks work three
+      links =
+          record {
+            whole = hands .whole ∙ lengths .whole ∙ copy .whole;
+            small = λ h. small;
+            links = λ k h. early k (omega arith) (inl (omega arith)) (inl (omega arith));
+          }
 
-    start : (j : ℕ) → j < 64 → whereAt three j ≡ whereAt work j
-    start j h =
-        let a = early (whereStart j) (omega arith) (inr (omega arith)) (inl (omega arith)) in
-        let b = early (whereStart j + 1) (omega arith) (inr (omega arith)) (inl (omega arith)) in
-        omega arith
+      start : (j : ℕ) → j < 64 → whereAt three j ≡ whereAt work j
+      start j h =
+          let a = early (whereStart j) (omega arith) (inr (omega arith)) (inl (omega arith)) in
+          let b = early (whereStart j + 1) (omega arith) (inr (omega arith)) (inl (omega arith)) in
+          omega arith
 
-    kept-long : (j : ℕ) → j < 64 → (j ≡ i → ⊥) → lengthAt three j ≡ lengthAt work j
-    kept-long j h ne = go (apart j i ne)
-      where
-        go : (j < i) ⊎ (i < j) → lengthAt three j ≡ lengthAt work j
-        go (inl o) =
-            let a = early (lengthStart j) (omega arith) (inl (omega arith)) (inl (omega arith)) in
-            let b = early (lengthStart j + 1) (omega arith) (inl (omega arith)) (inl (omega arith)) in
-            omega arith
-        go (inr o) =
-            let a = early (lengthStart j) (omega arith) (inr (omega arith)) (inl (omega arith)) in
-            let b = early (lengthStart j + 1) (omega arith) (inr (omega arith)) (inl (omega arith)) in
-            omega arith
+      kept-long : (j : ℕ) → j < 64 → (j ≡ i → ⊥) → lengthAt three j ≡ lengthAt work j
+      kept-long j h ne = go (apart j i ne)
+        where
+          go : (j < i) ⊎ (i < j) → lengthAt three j ≡ lengthAt work j
+          go (inl o) =
+              let a = early (lengthStart j) (omega arith) (inl (omega arith)) (inl (omega arith)) in
+              let b = early (lengthStart j + 1) (omega arith) (inl (omega arith)) (inl (omega arith)) in
+              omega arith
+          go (inr o) =
+              let a = early (lengthStart j) (omega arith) (inr (omega arith)) (inl (omega arith)) in
+              let b = early (lengthStart j + 1) (omega arith) (inr (omega arith)) (inl (omega arith)) in
+              omega arith
 
-    kept-handed : (j : ℕ) → j < 64 → (j ≡ i → ⊥) → handedAt three j ≡ handedAt work j
-    kept-handed j h ne = go (apart j i ne)
-      where
-        go : (j < i) ⊎ (i < j) → handedAt three j ≡ handedAt work j
-        go (inl o) =
-            let a = early (handedStart j) (omega arith) (inr (omega arith)) (inl (omega arith)) in
-            let b = early (handedStart j + 1) (omega arith) (inr (omega arith)) (inl (omega arith)) in
-            omega arith
-        go (inr o) =
-            let a = early (handedStart j) (omega arith) (inr (omega arith)) (inr (omega arith)) in
-            let b = early (handedStart j + 1) (omega arith) (inr (omega arith)) (inr (omega arith)) in
-            omega arith
+      kept-handed : (j : ℕ) → j < 64 → (j ≡ i → ⊥) → handedAt three j ≡ handedAt work j
+      kept-handed j h ne = go (apart j i ne)
+        where
+          go : (j < i) ⊎ (i < j) → handedAt three j ≡ handedAt work j
+          go (inl o) =
+              let a = early (handedStart j) (omega arith) (inr (omega arith)) (inl (omega arith)) in
+              let b = early (handedStart j + 1) (omega arith) (inr (omega arith)) (inl (omega arith)) in
+              omega arith
+          go (inr o) =
+              let a = early (handedStart j) (omega arith) (inr (omega arith)) (inr (omega arith)) in
+              let b = early (handedStart j + 1) (omega arith) (inr (omega arith)) (inr (omega arith)) in
+              omega arith
 
-    new-long : lengthAt three i ≡ lengthAt work i + many
-    new-long =
-        let r = has-room room in
-        let a = hands .others (lengthStart i) (inl (omega arith)) in
-        let b = hands .others (lengthStart i + 1) (inl (omega arith)) in
-        omega (arith, stored-two (lengthStart i) (lengthAt work i + many) (omega arith) lengths)
+      new-long : lengthAt three i ≡ lengthAt work i + many
+      new-long =
+          let r = has-room room in
+          let a = hands .others (lengthStart i) (inl (omega arith)) in
+          let b = hands .others (lengthStart i + 1) (inl (omega arith)) in
+          omega (arith, stored-two (lengthStart i) (lengthAt work i + many) (omega arith) lengths)
 
-    new-handed : handedAt three i ≡ many
-    new-handed = let r = has-room room in stored-two (handedStart i) many (omega arith) hands
+      new-handed : handedAt three i ≡ many
+      new-handed = let r = has-room room in stored-two (handedStart i) many (omega arith) hands
 
-    slot : (k : ℕ) → slotStart 0 ≤ k → (k < (endOf work i)) ⊎ ((endOf work i) + many ≤ k) → byte three k ≡ byte work k
-    slot k h e = other k (inr (omega arith)) (inr (omega arith)) e
+      slot : (k : ℕ) → slotStart 0 ≤ k → (k < (endOf work i)) ⊎ ((endOf work i) + many ≤ k) → byte three k ≡ byte work k
+      slot k h e = other k (inr (omega arith)) (inr (omega arith)) e
 
-    whole : length three ≡ length work
-    whole = links .whole
+      whole : length three ≡ length work
+      whole = links .whole
 
-    own-piece : pieceIn three i ≡ pieceIn work i ++ aboveOf work i
-    own-piece =
-        let n = lengthAt work i in
-        let w = whereAt work i in
-        let lo = low in
-        rw (new-long, start i in-head)
-        (take-add n many (drop w three)
-        ∙ ap₂ (λ (x y : Word). x ++ y) (piece-same work w n three whole (λ k h. slot (w + k) (omega arith) (inl (omega arith))))
-        (ap (take many) (drop-drop n w three) ∙ behind ∙ sym above))
-      where
-        behind : take many (drop (endOf work i) three) ≡ take many (drop from work)
-        behind =
-            let f = end-fits room in
-            let lo = low in
-            let m = piece-length three (endOf work i) many (omega (arith, whole, d .whole)) in
-            ext-getD 0 (take many (drop (endOf work i) three)) (take many (drop from work)) (m ∙ sym many-long)
-            (λ k h.
-            let l : k < many = omega arith in
-            piece-byte three (endOf work i) many k l ∙ hands .others ((endOf work i) + k) (inr (omega arith))
-            ∙ lengths .others ((endOf work i) + k) (inr (omega arith)) ∙ copy .here k (omega (arith, many-long)))
+      own-piece : pieceIn three i ≡ pieceIn work i ++ aboveOf work i
+      own-piece =
+          let n = lengthAt work i in
+          let w = whereAt work i in
+          let lo = low in
+          rw (new-long, start i in-head)
+          (take-add n many (drop w three)
+          ∙ ap₂ (λ (x y : Word). x ++ y) (piece-same work w n three whole (λ k h. slot (w + k) (omega arith) (inl (omega arith))))
+          (ap (take many) (drop-drop n w three) ∙ behind ∙ sym above))
+        where
+          behind : take many (drop (endOf work i) three) ≡ take many (drop from work)
+          behind =
+              let f = end-fits room in
+              let lo = low in
+              let m = piece-length three (endOf work i) many (omega (arith, whole, d .whole)) in
+              ext-getD 0 (take many (drop (endOf work i) three)) (take many (drop from work)) (m ∙ sym many-long)
+              (λ k h.
+              let l : k < many = omega arith in
+              piece-byte three (endOf work i) many k l ∙ hands .others ((endOf work i) + k) (inr (omega arith))
+              ∙ lengths .others ((endOf work i) + k) (inr (omega arith)) ∙ copy .here k (omega (arith, many-long)))
 
-    kept-piece : (j : ℕ) → j < countOf work → (j ≡ i → ⊥) → pieceIn three j ≡ pieceIn work j
-    kept-piece j l ne =
-        let f : j < 64 = omega (arith, d .few) in
-        let s = d .short j (omega arith) l in
-        let r = has-room room in
-        let lo = d .low j (omega arith) l in
-        rw (kept-long j f ne, start j f)
-        (piece-same work (whereAt work j) (lengthAt work j) three whole
-        (λ k h.
-        slot (whereAt work j + k) (omega arith)
-        (⊎-elim (λ a. inl (omega arith)) (λ a. inr (omega arith)) (away j l ne))))
+      kept-piece : (j : ℕ) → j < countOf work → (j ≡ i → ⊥) → pieceIn three j ≡ pieceIn work j
+      kept-piece j l ne =
+          let f : j < 64 = omega (arith, d .few) in
+          let s = d .short j (omega arith) l in
+          let r = has-room room in
+          let lo = d .low j (omega arith) l in
+          rw (kept-long j f ne, start j f)
+          (piece-same work (whereAt work j) (lengthAt work j) three whole
+          (λ k h.
+          slot (whereAt work j + k) (omega arith)
+          (⊎-elim (λ a. inl (omega arith)) (λ a. inr (omega arith)) (away j l ne))))
 
-    same-or : (P : ℕ → Type 0) → P i → ((j : ℕ) → (j ≡ i → ⊥) → P j) → (j : ℕ) → P j
-    same-or P here there j = go (below-or j i) (below-or i j)
-      where
-        go : (j < i) ⊎ (i ≤ j) → (i < j) ⊎ (j ≤ i) → P j
-        go (inl h) o = there j (λ e. omega arith)
-        go (inr h) (inl o) = there j (λ e. omega arith)
-        go (inr h) (inr o) = let e : i ≡ j = omega arith in subst P e here
+      same-or : (P : ℕ → Type 0) → P i → ((j : ℕ) → (j ≡ i → ⊥) → P j) → (j : ℕ) → P j
+      same-or P here there j = go (below-or j i) (below-or i j)
+        where
+          go : (j < i) ⊎ (i ≤ j) → (i < j) ⊎ (j ≤ i) → P j
+          go (inl h) o = there j (λ e. omega arith)
+          go (inr h) (inl o) = there j (λ e. omega arith)
+          go (inr h) (inr o) = let e : i ≡ j = omega arith in subst P e here
 
-    pub pushed-one : PushedOne work i three
-    pushed-one =
-        let size = same-count links in
-        let few = d .few in
-        record {
-          drafts = record {
-            whole = whole ∙ d .whole;
-            small = small;
-            few = omega arith;
-            below = λ j g h. same-none links j (omega arith) (d .below j g (omega arith));
-            short = λ j g h.
-                same-or (λ j. j < countOf work → lengthAt three j ≤ draftRoom) (λ o. let r = has-room room in omega (arith, new-long))
-                (λ j ne o. omega (arith, kept-long j (omega arith) ne, d .short j (omega arith) o)) j (omega arith);
-            low = λ j g h. rw (start j (omega arith)) (d .low j g (omega arith));
-            high = λ j g h. rw (start j (omega arith), size) (d .high j g (omega arith));
-            apart = λ a b g l h.
-                rw (start a (omega arith), start b (omega arith)) (d .apart a b g l (omega arith));
-          };
-          links = links;
-          piece = own-piece;
-          others = kept-piece;
-          handed = new-handed ∙ sym above-length;
-          kept = λ j l ne. kept-handed j (omega arith) ne;
-        }
+      pub pushed-one : PushedOne work i three
+      pushed-one =
+          let size = same-count links in
+          let few = d .few in
+          record {
+            drafts = record {
+              whole = whole ∙ d .whole;
+              small = small;
+              few = omega arith;
+              below = λ j g h. same-none links j (omega arith) (d .below j g (omega arith));
+              short = λ j g h.
+                  same-or (λ j. j < countOf work → lengthAt three j ≤ draftRoom) (λ o. let r = has-room room in omega (arith, new-long))
+                  (λ j ne o. omega (arith, kept-long j (omega arith) ne, d .short j (omega arith) o)) j (omega arith);
+              low = λ j g h. rw (start j (omega arith)) (d .low j g (omega arith));
+              high = λ j g h. rw (start j (omega arith), size) (d .high j g (omega arith));
+              apart = λ a b g l h.
+                  rw (start a (omega arith), start b (omega arith)) (d .apart a b g l (omega arith));
+            };
+            links = links;
+            piece = own-piece;
+            others = kept-piece;
+            handed = new-handed ∙ sym above-length;
+            kept = λ j l ne. kept-handed j (omega arith) ne;
+          }
 
 -- those from `i` on are pushed, and the others are as they were
 pub record Pushing (work₀ : List ℕ) (i : ℕ) (work : List ℕ) : Type 0 where

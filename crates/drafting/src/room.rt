@@ -1,7 +1,7 @@
 // What stands where in the room of a step. Nobody else counts its bytes.
 use links::Link;
-use words::load_two;
 use words::copy;
+use words::load_two;
 ghost use mathlib.Core.Path.{_≡_};
 ghost use mathlib.Core.List.{[], _++_};
 ghost use Prim.Native.Nat.{_+_, _<_, _≤_};

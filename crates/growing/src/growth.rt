@@ -93,7 +93,12 @@ fn follow_call(
     ensures { λ a. ⌜ Gathers (after (now (file .entry)) (now (session .entry)) call i r)
         (now (work .entry)) growth a (now (work .exit)) ⌝ }
 {
-    let link = over(session, i, table::row_to(file, r), table::row_marker(file, r));
+    let link = over(
+        session,
+        i,
+        table::row_to(file, r),
+        table::row_marker(file, r),
+    );
     let word = table::row_word(file, r);
     add(work, growth, link, word, &word[0..0], &word[0..0])
 }
@@ -278,12 +283,7 @@ fn nothing(work: &mut [u8; WORK]) -> Growth
 }
 
 // All that follows the links of a session on a symbol.
-pub fn grow(
-    file: &[u8],
-    session: &[u8; SIZE],
-    symbol: u8,
-    work: &mut [u8; WORK],
-) -> Growth
+pub fn grow(file: &[u8], session: &[u8; SIZE], symbol: u8, work: &mut [u8; WORK]) -> Growth
     requires { ⌜ (Usable (now file) (now session)) ×
         Fitting (growOf (tableOf (now file)) (sessionOf (now session)) symbol) ⌝ }
     ensures { λ r. ⌜ Grown (growOf (tableOf (now (file .entry))) (sessionOf (now (session .entry))) symbol) r

@@ -89,7 +89,6 @@ loop-holds c =
           (after-start2 .start2 .ensures .0) (c .long .ensures .0),
     )
 
-
 -- src/settling.rt:58:13
 narrowed-requires : tie.Need-narrowed-requires Inv-loop μ-loop
 narrowed-requires c κs =

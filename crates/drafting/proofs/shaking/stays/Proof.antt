@@ -41,9 +41,10 @@ returns-2 c =
     let args = else1 .before .before .before .args in
     let lt : linkAt (args .session .now) (args .i) .level < args .depth = omega (arith, else1 .if1 .left, else1 .before .level .ensures .0) in
     let seat = after-seat .seat .ensures in
-    exact-as
-    (λ f. (lt, subst (λ (s : ℕ). Footed (args .work .now) (args .first) s) seat f),
-    λ h. subst (λ (s : ℕ). Footed (args .work .now) (args .first) s) (sym seat) (h .1)) (c .carried .ensures)
+    exact-as (
+      λ f. (lt, subst (λ (s : ℕ). Footed (args .work .now) (args .first) s) seat f),
+      λ h. subst (λ (s : ℕ). Footed (args .work .now) (args .first) s) (sym seat) (h .1),
+    ) (c .carried .ensures)
 
 pub stays-spec : {M : Type 1} → statement M
 stays-spec = tie.close (tie.spec level-requires returns seat-requires carried-requires returns-2)
