@@ -8,8 +8,9 @@ use Rattle.checking.specs.declared.Verdict.{Verdict}
 use Rattle.session.specs.Calls.{numberOf, statesOf, Begins, Begun}
 use Rattle.session.specs.declared.fresh.Opening.{Opening}
 use Rattle.joining.specs.Promises.{Joins}
-use Rattle.joiner.specs.Calls.{numberOf as joiningNumber, whichOf, countOf, JoinedBy}
-use Rattle.joiner.specs.declared.hops.Joining.{Joining}
+use Rattle.joiner.specs.Calls.{JoinedBy}
+use Rattle.joiner.specs.declared.hops.Joined.{Joined}
+use Rattle.numbers.specs.Numbers.{numberOf as namedNumber}
 
 pub said-checked : {file : List ℕ} (r : Verdict) {number : ℕ} → number ≡ verdictNumber r → Checked file r
     → Judged file number
@@ -19,6 +20,6 @@ pub said-begun : {file session session′ : List ℕ} (r : Opening) {number stat
     → states ≡ statesOf r → Begun file session r session′ → Begins file session number states session′
 said-begun r e f b = rw (e, f) b
 
-pub said-joined : {one two out out′ : List ℕ} (r : Joining) {number which count : ℕ} → number ≡ joiningNumber r
-    → which ≡ whichOf r → count ≡ countOf r → JoinedBy one two out r out′ → Joins one two out number which count out′
-said-joined r e f g j = rw (e, f, g) j
+pub said-joined : {one two out out′ : List ℕ} (r : Joined) {number : ℕ} → number ≡ namedNumber (r .number)
+    → JoinedBy one two out r out′ → Joins one two out number (r .table) (r .count) out′
+said-joined r e j = rw e j

@@ -21,6 +21,9 @@ enum-told-3 c = search needs
 enum-told-4 : tie.Need-enum-told-4
 enum-told-4 c = search needs
 
+enum-known-wanted : tie.Need-enum-known-wanted
+enum-known-wanted c = search needs
+
 enum-told-5 : tie.Need-enum-told-5
 enum-told-5 c = search needs
 
@@ -29,9 +32,6 @@ enum-told-6 c = search needs
 
 enum-told-7 : tie.Need-enum-told-7
 enum-told-7 c = search needs
-
-enum-told-8 : tie.Need-enum-told-8
-enum-told-8 c = search needs
 
 close-goal-requires : tie.Need-close-goal-requires
 close-goal-requires c κs = search needs
@@ -51,13 +51,14 @@ returns-3 c =
 
 returns-4 : tie.Need-returns-4
 returns-4 c =
-    let told = c .before .before in
-    rw (← told .before .before .row-class .ensures, told .enum-told3 .given .1, c .enum-told5 .given .1)
+    let wanted = c .before in
+    let told = wanted .before .before in
+    rw (← told .before .before .row-class .ensures, told .enum-told3 .given .1, wanted .wanted .given .1)
 
 returns-5 : tie.Need-returns-5
 returns-5 c =
     let told = c .before .before in
-    rw (← told .before .before .row-class .ensures, told .enum-told6 .given .1, c .enum-told7 .given .1)
+    rw (← told .before .before .row-class .ensures, told .enum-told5 .given .1, c .enum-told6 .given .1)
 
 returns-6 : tie.Need-returns-6
 returns-6 c =
@@ -65,8 +66,8 @@ returns-6 c =
     let told = rows .before .before in
     rw (
       ← told .before .before .row-class .ensures,
-      told .enum-told6 .given .1,
-      rows .enum-told8 .given .1,
+      told .enum-told5 .given .1,
+      rows .enum-told7 .given .1,
       c .close-goal .ensures,
     )
 
@@ -80,10 +81,10 @@ planned-spec =
     call-goal-requires
     enum-told-3
     enum-told-4
+    enum-known-wanted
     enum-told-5
     enum-told-6
     enum-told-7
-    enum-told-8
     close-goal-requires
     returns
     returns-2
