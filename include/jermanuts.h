@@ -27,6 +27,9 @@ extern "C" {
 
 #define JERMANUTS_SESSION 33218 /* bytes of a session */
 #define JERMANUTS_WORK 49920    /* bytes of the room that jermanuts_step_in works in */
+#define JERMANUTS_SHELF 5890    /* bytes of each of the two shelves of jermanuts_join_in */
+#define JERMANUTS_TAPE 4128     /* bytes of its tape */
+#define JERMANUTS_JOIN_WORK (2 * JERMANUTS_SHELF + JERMANUTS_TAPE) /* bytes of all three */
 #define JERMANUTS_OUT 1024      /* bytes of out that suffice for every step and finish */
 #define JERMANUTS_FILE 6444     /* bytes of the longest rule file, which suffice for every join */
 
@@ -78,10 +81,18 @@ uint32_t jermanuts_finish(const uint8_t *file, size_t file_len, const uint8_t *s
 /* Joins two tables: writes to out the rule file of a table that allows exactly what the second
  * allows on some output of the first, and sets *count to its length. Gives 0, or the first that
  * applies of 1, 14, 15, 10. *which is 1 or 2, the bad table, where 1 is given (the first is looked
- * at first), else 0. Uses about 26 KB of stack; takes long where the second table branches much. */
+ * at first), else 0. Uses about 23 KB of stack, where jermanuts_join_in uses 7; takes long where
+ * the second table branches much. */
 uint32_t jermanuts_join(const uint8_t *first, size_t first_len, const uint8_t *second,
                         size_t second_len, uint8_t *out, size_t out_len, uint32_t *which,
                         size_t *count);
+
+/* The same in a room that is lent: marks and rows have JERMANUTS_SHELF bytes each, tape has
+ * JERMANUTS_TAPE, and no two of them overlap (JERMANUTS_JOIN_WORK bytes can be cut into the three).
+ * What they hold before doesn't matter; what they hold afterwards is not said. */
+uint32_t jermanuts_join_in(const uint8_t *first, size_t first_len, const uint8_t *second,
+                           size_t second_len, uint8_t *out, size_t out_len, uint32_t *which,
+                           size_t *count, uint8_t *marks, uint8_t *rows, uint8_t *tape);
 
 #ifdef __cplusplus
 }

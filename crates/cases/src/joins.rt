@@ -14,7 +14,8 @@ use crate::readers::list;
 use crate::sessions::opened;
 use crate::steps::message;
 use crate::tables::put;
-use joiner::Joining;
+use joiner::Joined;
+use numbers::number_of;
 use places::SIZE;
 use words::wide;
 ghost use Prim.Native.Nat.{_≤_};
@@ -40,30 +41,17 @@ struct Said {
     count: usize,
 }
 
-fn refusal(number: u64, which: u64) -> Said {
+fn in_numbers(joined: Joined) -> Said {
+    let number = joined.number;
     Said {
-        number,
-        which,
-        count: 0,
-    }
-}
-
-fn in_numbers(joining: Joining) -> Said {
-    match joining {
-        Joining::Taken { count } => Said {
-            number: 0,
-            which: 0,
-            count,
-        },
-        Joining::BadTable { which } => refusal(1, which as u64),
-        Joining::NotNested => refusal(14, 0),
-        Joining::TooLarge => refusal(15, 0),
-        Joining::NoRoom => refusal(10, 0),
+        number: number_of(number) as u64,
+        which: joined.table as u64,
+        count: joined.count,
     }
 }
 
 // A join that is lent so much of an output.
-fn lent(first: &[u8], second: &[u8], out: &mut [u8], room: usize) -> Joining
+fn lent(first: &[u8], second: &[u8], out: &mut [u8], room: usize) -> Joined
     requires { do ⌜ room ≤ (← ⟦out.len()⟧) ⌝ }
 {
     joiner::join(first, second, &mut out[..room])

@@ -3,9 +3,10 @@ use mathlib.Core.Path.{_≡_}
 use mathlib.Core.List.{List}
 use Prim.Native.Nat.{ℕ}
 use Rattle.joining.specs.Promises.{Joins}
-use Rattle.joiner.specs.Calls.{numberOf as joiningNumber, whichOf, countOf, JoinedBy}
-use Rattle.joiner.specs.declared.hops.Joining.{Joining}
+use Rattle.joiner.specs.Calls.{JoinedBy}
+use Rattle.joiner.specs.declared.hops.Joined.{Joined}
+use Rattle.numbers.specs.Numbers.{numberOf as namedNumber}
 
-pub said-joined : {one two out out′ : List ℕ} (r : Joining) {number which count : ℕ} → number ≡ joiningNumber r
-    → which ≡ whichOf r → count ≡ countOf r → JoinedBy one two out r out′ → Joins one two out number which count out′
-said-joined r e f g j = rw (e, f, g) j
+pub said-joined : {one two out out′ : List ℕ} (r : Joined) {number : ℕ} → number ≡ namedNumber (r .number)
+    → JoinedBy one two out r out′ → Joins one two out number (r .table) (r .count) out′
+said-joined r e j = rw e j

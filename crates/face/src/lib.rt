@@ -1,15 +1,15 @@
 // The calls for programs in C and Rust: each answers the scope's number, and what else a call gives is written where
 // the caller says.
 use engine::WORK;
-use joiner::Joining;
+use joiner::TAPE;
 use numbers::number_of;
 use places::SIZE;
+use shelf::SHELF;
 ghost use mathlib.Core.Path.{_≡_};
 ghost use Rattle.table.specs.Calls.{Judged};
 ghost use Rattle.session.specs.Calls.{Begins};
 ghost use Rattle.stepping.specs.Promises.{Stepped, Finished};
 ghost use Rattle.joining.specs.Promises.{Joins};
-ghost use Rattle.joiner.specs.Calls.{numberOf as joiningNumber, whichOf, countOf};
 
 #[no_mangle]
 pub extern "C" fn jermanuts_check(file: &[u8]) -> u32
@@ -96,46 +96,31 @@ pub extern "C" fn jermanuts_join(
         Joins (now (first .entry)) (now (second .entry)) (now (out .entry)) r (now (which .exit)) (now (count .exit))
         (now (out .exit)) ⌝ }
 {
-    let said = said_by_join(joiner::join(first, second, out));
-    *which = said.which;
+    let said = joiner::join(first, second, out);
+    *which = said.table;
     *count = said.count;
-    said.number
+    let number = said.number;
+    number_of(number)
 }
 
-// The number given back, the table that is bad (0: none), and the byte count.
-struct Joined {
-    number: u32,
-    which: u32,
-    count: usize,
-}
-
-fn refusal(number: u32) -> Joined
-    ensures { λ r. ⌜ (r .number ≡ number) × (r .which ≡ 0) × (r .count ≡ 0) ⌝ }
-{
-    Joined {
-        number,
-        which: 0,
-        count: 0,
-    }
-}
-
-fn said_by_join(joining: Joining) -> Joined
+#[no_mangle]
+pub extern "C" fn jermanuts_join_in(
+    first: &[u8],
+    second: &[u8],
+    out: &mut [u8],
+    which: &mut u32,
+    count: &mut usize,
+    marks: &mut [u8; SHELF],
+    rows: &mut [u8; SHELF],
+    tape: &mut [u8; TAPE],
+) -> u32
     ensures { λ r. ⌜
-        (r .number ≡ joiningNumber joining) × (r .which ≡ whichOf joining) × (r .count ≡ countOf joining) ⌝ }
+        Joins (now (first .entry)) (now (second .entry)) (now (out .entry)) r (now (which .exit)) (now (count .exit))
+        (now (out .exit)) ⌝ }
 {
-    match joining {
-        Joining::Taken { count } => Joined {
-            number: 0,
-            which: 0,
-            count,
-        },
-        Joining::BadTable { which } => Joined {
-            number: 1,
-            which: which as u32,
-            count: 0,
-        },
-        Joining::NotNested => refusal(14),
-        Joining::TooLarge => refusal(15),
-        Joining::NoRoom => refusal(10),
-    }
+    let answer = joiner::join_in(first, second, out, marks, rows, tape);
+    *which = answer.table;
+    *count = answer.count;
+    let number = answer.number;
+    number_of(number)
 }

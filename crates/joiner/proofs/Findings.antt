@@ -13,6 +13,7 @@ use lib.Seq.{take-all}
 use Rattle.words.specs.Lists.{_among_, each, upTo}
 use Rattle.words.specs.Words.{Word}
 use Rattle.words.proofs.Lists.{each-in, each-out, each-map}
+use Rattle.words.proofs.Each.{each-each}
 use Rattle.meaning.specs.Table.{Class, Row}
 use Rattle.meaning.specs.Runs.{Config, Steps}
 use Rattle.meaning.specs.Joining.{taken, endings}
@@ -26,7 +27,7 @@ use Rattle.shelf.specs.declared.Shelf.{Shelf}
 use Rattle.nesting.proofs.ByRow.{row-among}
 use Rattle.joiner.specs.Reading.{keysOf, Suited, findings, findingsOf}
 use Rattle.joiner.specs.declared.reading.Goal.{Goal}
-use Rattle.joiner.proofs.Passing.{each-each, Passing, passing-start, passing-skip}
+use Rattle.joiner.proofs.Passing.{Passing, passing-start, passing-skip}
 
 -- what goes on by row `r` of the file, where it has the symbol
 abbrev pub byRow : List ℕ → List Word → Goal → ℕ → Word → Config → ℕ → List Word
@@ -98,15 +99,15 @@ module _ (second : List ℕ) (marks : List Word) (goal : Goal) where
         ∙ (λ i. each (λ r. each-each (keysOf marks goal) (endings (tableOf second) v) (step r) i) (rows-of second i))
         ∙ each-map (λ r. findingsOf second marks goal v (step r)) (rowAt second) (upTo (rowCount second)))
 
-    pub rows-start : {r : ℕ} {arena starts order : List ℕ} {s : Shelf} → FirstRow second a (c .state) r
-        → Passing (byRow second marks goal a v c) arena starts order s r arena starts order s
+    pub rows-start : {r : ℕ} {room : List ℕ} {s : Shelf} → FirstRow second a (c .state) r
+        → Passing (byRow second marks goal a v c) room s r room s
     rows-start {r} f =
         passing-skip passing-start r (omega arith) (λ k l m. by-other k (none-before f k m))
 
-    pub rows-end : {w : Word} {r : ℕ} {arena starts order arena′ starts′ order′ : List ℕ} {s s′ : Shelf} → w ≡ a ∷ v
-        → Passing (byRow second marks goal a v c) arena starts order s r arena′ starts′ order′ s′ → r ≤ rowCount second
+    pub rows-end : {w : Word} {r : ℕ} {room room′ : List ℕ} {s s′ : Shelf} → w ≡ a ∷ v
+        → Passing (byRow second marks goal a v c) room s r room′ s′ → r ≤ rowCount second
         → ((k : ℕ) → r ≤ k → k < rowCount second → rowAt second k .symbol ≡ a → rowAt second k .from ≡ c .state → ⊥)
-        → Gathers (findings second marks goal w c) arena starts order s s′ arena′ starts′ order′
+        → Gathers (findings second marks goal w c) room s s′ room′
     rows-end e p l h =
         rw (e, ← by-rows) (passing-skip p (rowCount second) l (λ k m n. by-other k (h k m n)) .made)
 

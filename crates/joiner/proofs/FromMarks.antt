@@ -14,45 +14,36 @@ use Rattle.words.specs.Lists.{_among_, each, only, upTo}
 use Rattle.words.specs.Words.{Word}
 use Rattle.words.specs.Order.{rank}
 use Rattle.words.proofs.Lists.{each-map, upTo-in}
+use Rattle.words.proofs.Each.{each-each, map-each}
 use Rattle.words.proofs.Order.{less-self, rises-out}
 use Rattle.meaning.specs.Table.{Class, return, Row, rowKey}
 use Rattle.meaning.specs.Joining.{Mark, mark, markKey, marks, number, startsOf, rowsFrom}
 use Rattle.meaning.proofs.Reading.{run-level}
 use Rattle.meaning.proofs.Joined.{marks-out, steps, call-start}
 use Rattle.table.specs.File.{rowAt, tableOf}
-use Rattle.shelf.specs.Shelved.{wordAt, wordsOf, Held}
+use Rattle.shelf.specs.Shelved.{wordAt, Held}
 use Rattle.shelf.proofs.Lists.{rank-at}
-use Rattle.shelf.proofs.Laws.{shelved-none}
 use Rattle.shelf.proofs.Keys.{keys-kept, keys-rank}
 use Rattle.nesting.proofs.Levels.{level-small}
-use Rattle.joiner.specs.Gathering.{Small, Marked, closeGoal, foundBy, markOf, givenFrom, givenAt}
+use Rattle.joiner.specs.Gathering.{Small, AllMarks, Marked, closeGoal, foundBy, markOf, givenFrom, givenAt}
 use Rattle.joiner.specs.Gathering.{allMarks, pushedKeys}
 use Rattle.joiner.specs.declared.reading.Goal.{Goal}
 use Rattle.joiner.specs.declared.gathering.Wanted.{Wanted}
-use Rattle.joiner.specs.declared.gathering.Wanted.the-variants.{Marks, Rows}
-use Rattle.joiner.proofs.Passing.{each-each}
-use Rattle.joiner.proofs.Given.{map-each, rows-one, close-keys}
+use Rattle.joiner.specs.declared.gathering.Wanted.the-variants.{Rows}
+use Rattle.joiner.proofs.Given.{rows-one, close-keys}
 
--- no mark stands in any rooms; all do on the shelf that they were put on, where they are not too many
-pub marked-none : {a b keys edges turns : List ℕ} → Marked Marks a b keys edges turns 0
-marked-none {keys = keys} {edges = edges} {turns = turns} =
-    record {
-      numbered = record { standing = shelved-none keys edges turns .made 0 0 refl .standing; most = omega arith };
-      are = λ e. absurd (let z : _≡_ {A = ℕ} 0 1 = cc in omega arith);
-    }
-
-pub marked-rows : {wanted : Wanted} {a b keys edges turns : List ℕ} {count : ℕ} → wanted ≡ Rows
-    → Marked wanted a b keys edges turns count → Marked Rows a b keys edges turns count
-marked-rows e m = rw e at m
-
-pub marked-all : {a b keys edges turns : List ℕ} {count used : ℕ}
-    → Held (pushedKeys (tableOf a) (tableOf b)) keys edges turns count used → count ≤ 64
-    → Marked Rows a b keys edges turns count
+-- all marks stand on the shelf that they were put on, where they are not too many
+pub marked-all : {a b keys : List ℕ} {count used : ℕ} → Held (pushedKeys (tableOf a) (tableOf b)) keys count used
+    → count ≤ 64 → AllMarks a b keys count
 marked-all {a} {b} h l =
     record {
       numbered = record { standing = h .standing; most = l };
-      are = λ e. h .are ∙ sym (keys-kept markKey (allMarks (tableOf a) (tableOf b)));
+      are = h .are ∙ sym (keys-kept markKey (allMarks (tableOf a) (tableOf b)));
     }
+
+pub marked-rows : {wanted : Wanted} {a b keys : List ℕ} {count : ℕ} → wanted ≡ Rows count → Marked wanted a b keys
+    → AllMarks a b keys count
+marked-rows e m = rw e at m
 
 -- a mark is known by its key
 mark-back : (y : Mark) → markOf (markKey y) ≡ y
@@ -75,12 +66,12 @@ pub return-other : (a b : List ℕ) (x q : ℕ) (y : Mark) → (y .marker ≡ ro
 unfolding givenFrom
 return-other a b x q y f = rw (ne-eqb (y .marker) (rowAt a x .marker) f)
 
-module _ {a b keys edges turns : List ℕ} {count : ℕ} (k : Marked Rows a b keys edges turns count) where
+module _ {a b keys : List ℕ} {count : ℕ} (k : AllMarks a b keys count) where
   abbrev L : List Mark
   L = marks (tableOf a) (tableOf b)
 
   abbrev key : ℕ → Word
-  key = wordAt keys edges turns
+  key = wordAt keys
 
   -- the marks, by their places
   by-place : {T : Type 0} (g : Mark → List T) → each (λ i. g (markOf (key i))) (upTo count) ≡ each g L
@@ -88,7 +79,7 @@ module _ {a b keys edges turns : List ℕ} {count : ℕ} (k : Marked Rows a b ke
       sym
       (sym (λ i. each (λ y. g (mark-back y i)) L)
       ∙ sym (each-map (λ w. g (markOf w)) markKey L)
-      ∙ ap (each (λ w. g (markOf w))) (sym (k .are refl))
+      ∙ ap (each (λ w. g (markOf w))) (sym (k .are))
       ∙ each-map (λ w. g (markOf w)) key (upTo count))
 
   -- one of them, by its key
@@ -98,7 +89,7 @@ module _ {a b keys edges turns : List ℕ} {count : ℕ} (k : Marked Rows a b ke
 
   mark-at : {i : ℕ} → i < count → MarkAt i
   mark-at {i} l =
-      let x = Memᴰ·of-map markKey L (rw (k .are refl) at (Memᴰ·map key (upTo-in count i l))) in
+      let x = Memᴰ·of-map markKey L (rw (k .are) at (Memᴰ·map key (upTo-in count i l))) in
       let same : markOf (key i) ≡ x .0 = ap markOf (sym (x .2)) ∙ mark-back (x .0) in
       record { member = Memᴰ·cast same (x .1); is = ap markKey same ∙ x .2 }
 
@@ -116,7 +107,7 @@ module _ {a b keys edges turns : List ℕ} {count : ℕ} (k : Marked Rows a b ke
       (ap suc
       (keys-rank markKey L (markOf (key i))
       ∙ ap (rank (λ (w : Word). w) (map markKey L)) (mark-at l .is)
-      ∙ ap (λ (m : List Word). rank (λ (w : Word). w) m (key i)) (sym (k .are refl))
+      ∙ ap (λ (m : List Word). rank (λ (w : Word). w) m (key i)) (sym (k .are))
       ∙ rank-at (key i) key count i l refl (λ j m e. apart j m e))
       ∙ sym (add-one i))
     where
@@ -127,7 +118,7 @@ module _ {a b keys edges turns : List ℕ} {count : ℕ} (k : Marked Rows a b ke
   module _ (x q : ℕ) where
     -- all marks
     pub returns-all : tableOf a .class (rowAt a x .symbol) ≡ return
-        → each (λ i. givenFrom a b x q (markOf (key i))) (upTo count) ≡ givenAt Rows a b x q
+        → each (λ i. givenFrom a b x q (markOf (key i))) (upTo count) ≡ givenAt (Rows count) a b x q
     unfolding givenFrom givenAt
     returns-all c =
         let rows : Class → List ℕ → List Row = λ k. rowsFrom (tableOf b) L k (rowAt a x) q in
@@ -139,27 +130,26 @@ module _ {a b keys edges turns : List ℕ} {count : ℕ} (k : Marked Rows a b ke
 
     -- one that has the row's marker
     pub return-same : {i : ℕ} → i < count → getD (key i) 0 0 ≡ rowAt a x .marker → {goal : Goal} {s : List ℕ}
-        → goal ≡ closeGoal a b x q (i + 1) → s ≡ markOf (key i) .left
-        → foundBy a b (wordsOf keys edges turns count) goal x q s ≡ givenFrom a b x q (markOf (key i))
+        → goal ≡ closeGoal a b x q (i + 1) → s ≡ markOf (key i) .left → (M : List Word)
+        → foundBy a b M goal x q s ≡ givenFrom a b x q (markOf (key i))
     unfolding givenFrom
-    return-same {i} l e goal-is stack-is =
+    return-same {i} l e goal-is stack-is M =
         let y = markOf (key i) in
         let rows = rowsFrom (tableOf b) L return (rowAt a x) q in
-        let M = wordsOf keys edges turns count in
         (λ j. foundBy a b M (goal-is j) x q (stack-is j))
         ∙ rows-one a b x q M return (y .left) (closeGoal a b x q (i + 1))
         (λ d. close-keys a b x q M return (y .left) d refl (number-at l ∙ ap (number L) (λ i. mark (e i) (y .left))))
         ∙ ap (map rowKey) (sym (append-nil (rows (y .left))))
         ∙ ap (λ (c : Bool). map rowKey (each rows (only c (y .left)))) (sym (eq-eqb (y .marker) (rowAt a x .marker) e))
 
--- the list of a mark stands on the stack from its bottom, where the rest of its key was copied
-pub laid : (w stack : Word) {left stack′ : Word} → left ≡ take (length w - 1) (drop 1 w)
-    → stack′ ≡ paste stack 0 left (length left) → reverse (take (length left) stack′) ≡ reverse (drop 1 w)
-laid w stack {left} e p =
+-- the list of a mark stands on the tape from its bottom, where the rest of its key was copied
+pub laid : (w tape : Word) {left tape′ : Word} → left ≡ take (length w - 1) (drop 1 w)
+    → tape′ ≡ paste tape 0 left (length left) → reverse (take (length left) tape′) ≡ reverse (drop 1 w)
+laid w tape {left} e p =
     ap reverse
     (ap (take (length left)) p
-    ∙ ap (λ (n : ℕ). take n (paste stack 0 left (length left))) (sym (zero-add (length left)))
-    ∙ take-paste stack 0 left (length left) (omega arith) (omega arith)
+    ∙ ap (λ (n : ℕ). take n (paste tape 0 left (length left))) (sym (zero-add (length left)))
+    ∙ take-paste tape 0 left (length left) (omega arith) (omega arith)
     ∙ take-length left
     ∙ e
     ∙ rest w)

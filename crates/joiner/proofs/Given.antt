@@ -1,34 +1,40 @@
 -- What a row of the first gives, by the class of its symbol, and that its endings suit. Assumes nothing.
 use mathlib.Core.Path.{_≡_, refl, sym, _∙_, ap}
 use mathlib.Core.Bool.{Bool, true, false}
-use mathlib.Core.List.{List, [], _∷_, _++_, map, map-append, append-nil, Memᴰ·map, List·Memᴰ·head}
-use Prim.Native.Nat.{ℕ, suc, _+_, _<_}
+use mathlib.Core.List.{List, [], _∷_, map, append-nil, reverse, Memᴰ·map, List·Memᴰ·head}
+use Prim.Native.Nat.{ℕ, suc, _+_, _<_, _≤_}
 use native.Mathlib.Nat.{mul-le-mul-right}
 use native.Mathlib.Omega.{arith}
+use lib.ListN.{length, take}
+use lib.Seq.{slice-empty}
 use Rattle.words.specs.Lists.{_among_, each, only, isEmpty, upTo}
 use Rattle.words.specs.Words.{Word}
 use Rattle.words.specs.Order.{rank}
 use Rattle.words.proofs.Lists.{each-map}
+use Rattle.words.proofs.Each.{map-each}
 use Rattle.meaning.specs.Table.{Class, unused, call, return, internal, is, Row, Table, rowKey, edition1, GoodRow}
 use Rattle.meaning.specs.Table.{Good as GoodTable}
 use Rattle.meaning.specs.Runs.{Config, config}
-use Rattle.meaning.specs.Joining.{readings, pair, Mark, mark, markKey, pushed, marks, number, startsOf, leaves}
+use Rattle.meaning.specs.Joining.{endings, readings, pair, Mark, mark, markKey, pushed, marks, number, startsOf, leaves}
 use Rattle.meaning.specs.Joining.{markerOf, joinedRow, rowsFrom, rowsOf}
 use Rattle.meaning.proofs.Reading.{endings-out, run-inside}
 use Rattle.meaning.proofs.Joined.{Joins, marks-in}
 use Rattle.table.specs.File.{rowCount, wordOf, rowAt, tableOf}
 use Rattle.table.proofs.Stands.{good-table, rows-of}
+use Rattle.shelf.specs.Shelved.{wordsOf}
 use Rattle.shelf.proofs.Keys.{keys-rank}
 use Rattle.nesting.proofs.ByRow.{row-among}
-use Rattle.joiner.specs.Reading.{leftKey, leftNumber, keysOf, Suited, findings}
-use Rattle.joiner.specs.Gathering.{Small, At, callGoal, closeGoal, planOf, foundBy, givenAt, givenBy, given}
-use Rattle.joiner.specs.Gathering.{pushedKeys, joinedKeys}
+use Rattle.joiner.specs.Reading.{stackRoom, configOf, leftKey, leftNumber, marksOf, keysOf, Suited, findings}
+use Rattle.joiner.specs.Reading.{Reads, Ranked}
+use Rattle.joiner.specs.Gathering.{Small, At, Marked, callGoal, closeGoal, planOf, foundBy, givenAt, givenBy}
+use Rattle.joiner.specs.Gathering.{allKeys}
+use Rattle.joiner.specs.declared.reading.Cursor.{Cursor}
 use Rattle.joiner.specs.declared.reading.Goal.{Goal}
 use Rattle.joiner.specs.declared.gathering.Wanted.{Wanted}
 use Rattle.joiner.specs.declared.gathering.Wanted.the-variants.{Marks, Rows}
 use Rattle.joiner.specs.declared.gathering.Plan.the-variants.{Skip, Read, FromMarks}
 
--- lists: nothing is made of any; a function after another
+-- lists: nothing is made of any; a function after a test
 
 each-none : {A B : Type 0} (f : A → List B) (l : List A) → ((x : A) → f x ≡ []) → each f l ≡ []
 each-none f [] h = refl
@@ -37,12 +43,6 @@ each-none f (x ∷ l) h = rw (h x) (each-none f l h)
 map-only : {A B : Type 0} (g : A → B) (b : Bool) (x : A) → map g (only b x) ≡ only b (g x)
 map-only g true x = refl
 map-only g false x = refl
-
-pub map-each : {A B C : Type 0} (g : B → C) (f : A → List B) (l : List A)
-    → map g (each f l) ≡ each (λ x. map g (f x)) l
-map-each g f [] = refl
-map-each {C = C} g f (x ∷ l) =
-    map-append g (f x) (each f l) ∙ ap (λ (m : List C). map g (f x) ++ m) (map-each g f l)
 
 -- what is given row by row and state by state is what the meaning lists
 
@@ -60,15 +60,12 @@ pub by-states : (wanted : Wanted) (a b : List ℕ) (x : ℕ)
 unfolding givenBy
 by-states wanted a b x = refl
 
-module _ (a b : List ℕ) where
-  pub given-marks : given Marks a b ≡ pushedKeys (tableOf a) (tableOf b)
-  unfolding givenBy givenAt
-  given-marks = keys-all markKey (pushed (tableOf a) (tableOf b)) a (tableOf b .states)
-
-  pub given-rows : given Rows a b ≡ joinedKeys (tableOf a) (tableOf b)
-  unfolding givenBy givenAt
-  given-rows =
-      keys-all rowKey (rowsOf (tableOf a) (tableOf b) (marks (tableOf a) (tableOf b))) a (tableOf b .states)
+pub given-all : (wanted : Wanted) (a b : List ℕ)
+    → each (givenBy wanted a b) (upTo (rowCount a)) ≡ allKeys wanted (tableOf a) (tableOf b)
+unfolding givenBy givenAt
+given-all Marks a b = keys-all markKey (pushed (tableOf a) (tableOf b)) a (tableOf b .states)
+given-all (Rows count) a b =
+    keys-all rowKey (rowsOf (tableOf a) (tableOf b) (marks (tableOf a) (tableOf b))) a (tableOf b .states)
 
 -- small files: their tables are good, and pairs of states are bytes
 
@@ -118,17 +115,48 @@ module _ {a b : List ℕ} {x q : ℕ} (h : At a b x q) where
       } in
       marks-in (tableOf a) (tableOf b) j c
 
-  module _ {keys : List Word} where
-    pub suited-close : (number : ℕ) (s : List ℕ)
-        → Suited keys (closeGoal a b x q number) (readings (tableOf b) (rowAt a x) q s)
-    suited-close number s = record { each = λ e m. to-small s m }
+  pub suited-close : {keys : List Word} (number : ℕ) (s : List ℕ)
+      → Suited keys (closeGoal a b x q number) (readings (tableOf b) (rowAt a x) q s)
+  suited-close number s = record { each = λ e m. to-small s m }
 
-    suited-call : (wanted : Wanted) → (wanted ≡ Rows → keys ≡ map markKey (marks (tableOf a) (tableOf b)))
-        → tableOf a .class (rowAt a x .symbol) ≡ call
-        → Suited keys (callGoal wanted a b x q) (readings (tableOf b) (rowAt a x) q [])
-    suited-call Marks are c = record { each = λ e m. tt }
-    suited-call Rows are c =
-        record { each = λ e m. (to-small [] m, rw (are refl) (Memᴰ·map markKey (mark-in c m))) }
+  suited-call : (wanted : Wanted) (room : List ℕ) → Marked wanted a b room
+      → tableOf a .class (rowAt a x .symbol) ≡ call → let goal = callGoal wanted a b x q in
+      Suited (marksOf room goal) goal (readings (tableOf b) (rowAt a x) q [])
+  suited-call Marks room m c = record { each = λ e m. tt }
+  suited-call (Rows count) room m c =
+      record { each = λ e n. (to-small [] n, rw (m .are) (Memᴰ·map markKey (mark-in c n))) }
+
+-- a reading of the row's word, with so many markers on the tape and nothing written
+
+module _ (a b : List ℕ) (x : ℕ) (w : Word) (is : w ≡ wordOf a x) (q height : ℕ) where
+  abbrev cursor : Cursor
+  cursor = record { state = q; height = height; end = stackRoom }
+
+  pub row-reads : At a b x q → height ≤ 16 → Reads b cursor w
+  row-reads h low =
+      let long = ap length is in
+      let short = h .small .words (rowAt a x) (row-among a x (h .row)) in
+      record {
+        good = h .small .hops .second;
+        high = omega arith;
+        behind = omega arith;
+        room = omega arith;
+      }
+
+  module _ (tape : List ℕ) where
+    abbrev start : Config
+    start = config q (reverse (take height tape)) []
+
+    begins : configOf cursor tape ≡ start
+    begins = ap (config q (reverse (take height tape))) (slice-empty stackRoom tape)
+
+    pub row-suited : {keys : List Word} {goal : Goal} → Suited keys goal (endings (tableOf b) (wordOf a x) start)
+        → Suited keys goal (endings (tableOf b) w (configOf cursor tape))
+    row-suited s = rw (is, begins) s
+
+    pub row-found : (keys : List Word) (goal : Goal)
+        → findings b keys goal w (configOf cursor tape) ≡ foundBy a b keys goal x q (reverse (take height tape))
+    row-found keys goal = λ i. findings b keys goal (is i) (begins i)
 
 -- the keys that endings give are those of the joined rows
 
@@ -153,9 +181,9 @@ module _ (a b : List ℕ) (x q : ℕ) where
 
   -- a row that is read from an empty stack only
   one-start : {k : Class} → Of k → startsOf L k (r .marker) ≡ [] ∷ []
-      → map rowKey (rowsFrom B L k r q []) ≡ givenAt Rows a b x q
+      → (count : ℕ) → map rowKey (rowsFrom B L k r q []) ≡ givenAt (Rows count) a b x q
   unfolding givenAt
-  one-start {k} c e =
+  one-start {k} c e count =
       sym
       (ap (λ (k : Class). map rowKey (each (rowsFrom B L k r q) (startsOf L k (r .marker)))) c
       ∙ ap (λ (z : List (List ℕ)). map rowKey (each (rowsFrom B L k r q) z)) e
@@ -180,9 +208,9 @@ module _ (a b : List ℕ) (x q : ℕ) where
         ∙ sym (map-only rowKey (isEmpty (e .stack)) (joinedRow B L k r q s e))
         ∙ ap (λ (c : Bool). map rowKey (only c (joinedRow B L k r q s e))) (sym l)
 
-    call-keys : keys ≡ map markKey L → (e : Config)
-        → keysOf keys (callGoal Rows a b x q) e ≡ map rowKey (only true (joinedRow B L call r q [] e))
-    call-keys are e =
+    call-keys : keys ≡ map markKey L → (count : ℕ) (e : Config)
+        → keysOf keys (callGoal (Rows count) a b x q) e ≡ map rowKey (only true (joinedRow B L call r q [] e))
+    call-keys are count e =
         λ i. (r .symbol ∷ pair (B .states) (r .from) q ∷ number-is i ∷ to-is e i ∷ e .output) ∷ []
       where
         number-is : leftNumber keys (r .marker) e ≡ number L (mark (r .marker) (e .stack))
@@ -190,19 +218,22 @@ module _ (a b : List ℕ) (x q : ℕ) where
             ap (λ (l : List Word). suc (rank (λ (w : Word). w) l (leftKey (r .marker) e))) are
             ∙ ap suc (sym (keys-rank markKey L (mark (r .marker) (e .stack))))
 
-    found-call : (wanted : Wanted) → (wanted ≡ Rows → keys ≡ map markKey L) → Of call
-        → foundBy a b keys (callGoal wanted a b x q) x q [] ≡ givenAt wanted a b x q
-    unfolding findings givenAt
-    found-call Marks are c =
-        let left : Config → Mark = λ e. mark (r .marker) (e .stack) in
-        sym
-        (ap (λ (k : Class). map markKey (each (λ e. only (is k call) (left e)) (readings B r q []))) c
-        ∙ map-each markKey (λ e. only true (left e)) (readings B r q []))
-    found-call Rows are c = rows-one call [] (callGoal Rows a b x q) (call-keys (are refl)) ∙ one-start c refl
+    found-internal : Of internal → (count : ℕ)
+        → foundBy a b keys (closeGoal a b x q 0) x q [] ≡ givenAt (Rows count) a b x q
+    found-internal c count =
+        rows-one internal [] (closeGoal a b x q 0) (λ e. close-keys internal [] e refl refl) ∙ one-start c refl count
 
-    found-internal : Of internal → foundBy a b keys (closeGoal a b x q 0) x q [] ≡ givenAt Rows a b x q
-    found-internal c =
-        rows-one internal [] (closeGoal a b x q 0) (λ e. close-keys internal [] e refl refl) ∙ one-start c refl
+  found-call : (wanted : Wanted) (room : List ℕ) → Marked wanted a b room → Of call
+      → let goal = callGoal wanted a b x q in foundBy a b (marksOf room goal) goal x q [] ≡ givenAt wanted a b x q
+  unfolding findings givenAt
+  found-call Marks room m c =
+      let left : Config → Mark = λ e. mark (r .marker) (e .stack) in
+      sym
+      (ap (λ (k : Class). map markKey (each (λ e. only (is k call) (left e)) (readings B r q []))) c
+      ∙ map-each markKey (λ e. only true (left e)) (readings B r q []))
+  found-call (Rows count) room m c =
+      let keys = wordsOf room count in
+      rows-one keys call [] (callGoal (Rows count) a b x q) (call-keys keys (m .are) count) ∙ one-start c refl count
 
   none-pushed : {k : Class} → Of k → is k call ≡ false → [] ≡ givenAt Marks a b x q
   unfolding givenAt
@@ -212,46 +243,54 @@ module _ (a b : List ℕ) (x q : ℕ) where
       (ap (λ (k : Class). is k call) c ∙ f)
       ∙ ap (map markKey) (each-none _ (readings B r q []) (λ e. refl)))
 
-  none-started : Of unused → [] ≡ givenAt Rows a b x q
+  none-started : Of unused → (count : ℕ) → [] ≡ givenAt (Rows count) a b x q
   unfolding givenAt
-  none-started c = rw c
+  none-started c count = rw c
 
   -- by the plan
 
   pub plan-skip : (wanted : Wanted) (k : Class) → Of k → planOf wanted k a b x q ≡ Skip → [] ≡ givenAt wanted a b x q
   plan-skip Marks unused c p = none-pushed c refl
-  plan-skip Rows unused c p = none-started c
-  plan-skip Marks call c p = absurd (let z : _≡_ {A = ℕ} 0 1 = cc in omega arith)
-  plan-skip Rows call c p = absurd (let z : _≡_ {A = ℕ} 0 1 = cc in omega arith)
+  plan-skip (Rows count) unused c p = none-started c count
+  plan-skip wanted call c p = absurd (let z : _≡_ {A = ℕ} 0 1 = cc in omega arith)
   plan-skip Marks return c p = none-pushed c refl
-  plan-skip Rows return c p = absurd (let z : _≡_ {A = ℕ} 0 1 = cc in omega arith)
+  plan-skip (Rows count) return c p = absurd (let z : _≡_ {A = ℕ} 0 1 = cc in omega arith)
   plan-skip Marks internal c p = none-pushed c refl
-  plan-skip Rows internal c p = absurd (let z : _≡_ {A = ℕ} 0 1 = cc in omega arith)
+  plan-skip (Rows count) internal c p = absurd (let z : _≡_ {A = ℕ} 0 1 = cc in omega arith)
 
-  pub plan-marks : (wanted : Wanted) (k : Class) → planOf wanted k a b x q ≡ FromMarks → (wanted ≡ Rows) × (k ≡ return)
-  plan-marks Marks unused p = absurd (let z : _≡_ {A = ℕ} 0 1 = cc in omega arith)
-  plan-marks Rows unused p = absurd (let z : _≡_ {A = ℕ} 0 1 = cc in omega arith)
-  plan-marks Marks call p = absurd (let z : _≡_ {A = ℕ} 0 1 = cc in omega arith)
-  plan-marks Rows call p = absurd (let z : _≡_ {A = ℕ} 0 1 = cc in omega arith)
+  pub plan-marks : (wanted : Wanted) (k : Class) {count : ℕ} → planOf wanted k a b x q ≡ FromMarks count
+      → (wanted ≡ Rows count) × (k ≡ return)
+  plan-marks wanted unused p = absurd (let z : _≡_ {A = ℕ} 0 1 = cc in omega arith)
+  plan-marks wanted call p = absurd (let z : _≡_ {A = ℕ} 0 1 = cc in omega arith)
   plan-marks Marks return p = absurd (let z : _≡_ {A = ℕ} 0 1 = cc in omega arith)
-  plan-marks Rows return p = (refl, refl)
+  plan-marks (Rows count) return p = (ap Rows (let e : count ≡ _ = cc in e), refl)
   plan-marks Marks internal p = absurd (let z : _≡_ {A = ℕ} 0 1 = cc in omega arith)
-  plan-marks Rows internal p = absurd (let z : _≡_ {A = ℕ} 0 1 = cc in omega arith)
+  plan-marks (Rows count) internal p = absurd (let z : _≡_ {A = ℕ} 0 1 = cc in omega arith)
 
   -- what is read from an empty stack suits, and gives what the row gives
-  pub record Reading (keys : List Word) (wanted : Wanted) (goal : Goal) : Type 0 where
-    pub suited : Suited keys goal (readings B r q [])
-    pub gives : foundBy a b keys goal x q [] ≡ givenAt wanted a b x q
+  pub record Reading (room : List ℕ) (wanted : Wanted) (goal : Goal) : Type 0 where
+    pub ranked : Ranked room goal
+    pub suited : Suited (marksOf room goal) goal (readings B r q [])
+    pub gives : foundBy a b (marksOf room goal) goal x q [] ≡ givenAt wanted a b x q
 
-  pub plan-read : {keys : List Word} {goal : Goal} → At a b x q → (wanted : Wanted) (k : Class)
-      → (wanted ≡ Rows → keys ≡ map markKey L) → Of k → planOf wanted k a b x q ≡ Read goal → Reading keys wanted goal
-  plan-read h wanted unused are c p = absurd (let z : _≡_ {A = ℕ} 0 1 = cc in omega arith)
-  plan-read {keys} {goal} h wanted call are c p =
+  call-ranked : (wanted : Wanted) (room : List ℕ) → Marked wanted a b room → Ranked room (callGoal wanted a b x q)
+  call-ranked Marks room m = tt
+  call-ranked (Rows count) room m = m .numbered
+
+  pub plan-read : {room : List ℕ} {goal : Goal} → At a b x q → (wanted : Wanted) (k : Class) → Marked wanted a b room
+      → Of k → planOf wanted k a b x q ≡ Read goal → Reading room wanted goal
+  plan-read h wanted unused m c p = absurd (let z : _≡_ {A = ℕ} 0 1 = cc in omega arith)
+  plan-read {room} {goal} h wanted call m c p =
       let e : callGoal wanted a b x q ≡ goal = cc in
-      rw (← e) (record { suited = suited-call h wanted are c; gives = found-call keys wanted are c })
-  plan-read h Marks return are c p = absurd (let z : _≡_ {A = ℕ} 0 1 = cc in omega arith)
-  plan-read h Rows return are c p = absurd (let z : _≡_ {A = ℕ} 0 1 = cc in omega arith)
-  plan-read h Marks internal are c p = absurd (let z : _≡_ {A = ℕ} 0 1 = cc in omega arith)
-  plan-read {keys} {goal} h Rows internal are c p =
+      rw (← e)
+      (record {
+        ranked = call-ranked wanted room m;
+        suited = suited-call h wanted room m c;
+        gives = found-call wanted room m c;
+      })
+  plan-read h Marks return m c p = absurd (let z : _≡_ {A = ℕ} 0 1 = cc in omega arith)
+  plan-read h (Rows count) return m c p = absurd (let z : _≡_ {A = ℕ} 0 1 = cc in omega arith)
+  plan-read h Marks internal m c p = absurd (let z : _≡_ {A = ℕ} 0 1 = cc in omega arith)
+  plan-read {goal = goal} h (Rows count) internal m c p =
       let e : closeGoal a b x q 0 ≡ goal = cc in
-      rw (← e) (record { suited = suited-close h 0 []; gives = found-internal keys c })
+      rw (← e) (record { ranked = tt; suited = suited-close h 0 []; gives = found-internal [] c count })

@@ -46,8 +46,8 @@ nested-pair : {one two : List ℕ} → Nested one two → Pair one two
 nested-pair n =
     record { first = n .small .hops .first; second = n .small .hops .second; few = n .small .states }
 
-module _ {one two : List ℕ} {markers : ℕ} {arena starts order : List ℕ} {count used : ℕ}
-    (r : Rowed one two markers arena starts order count used) where
+module _ {one two : List ℕ} {markers : ℕ} {rows : List ℕ} {count used : ℕ}
+    (r : Rowed one two markers rows count used) where
   abbrev A : Table
   A = tableOf one
 
@@ -57,11 +57,11 @@ module _ {one two : List ℕ} {markers : ℕ} {arena starts order : List ℕ} {c
   abbrev J : Table
   J = joined A B
 
-  keys : wordsOf arena starts order count ≡ map rowKey (J .rows)
+  keys : wordsOf rows count ≡ map rowKey (J .rows)
   keys = stood-keys (allRows A B) (r .held)
 
   many : count ≡ length (J .rows)
-  many = count-is (J .rows) arena starts order count keys
+  many = count-is (J .rows) rows count keys
 
   bytes : used ≡ 4 * count + length (said (J .rows))
   bytes = stood-words (allRows A B) (r .held)
@@ -70,17 +70,17 @@ module _ {one two : List ℕ} {markers : ℕ} {arena starts order : List ℕ} {c
   hopped-used = omega (arith, bytes)
 
   -- a long key is the key of a row with a long word, and the other way round
-  long-word : LongKey arena starts order count → LongWord 255 J
+  long-word : LongKey rows count → LongWord 255 J
   long-word k =
-      let word = wordAt arena starts order in
+      let word = wordAt rows in
       let at = Memᴰ·map word (upTo-in count (k .at) (k .within)) in
       let x = Memᴰ·of-map rowKey (J .rows) (subst (λ (l : List Word). word (k .at) among l) keys at) in
       (x .0, x .1, omega (arith, ap length (x .2), k .long))
 
-  long-key : LongWord 255 J → LongKey arena starts order count
+  long-key : LongWord 255 J → LongKey rows count
   long-key w =
       let at = subst (λ (l : List Word). rowKey (w .0) among l) (sym keys) (Memᴰ·map rowKey (w .1)) in
-      let x = Memᴰ·of-map (wordAt arena starts order) (upTo count) at in
+      let x = Memᴰ·of-map (wordAt rows) (upTo count) at in
       record { at = x .0; within = upTo-out count (x .0) (x .1); long = omega (arith, ap length (x .2), w .2) }
 
   module _ (out : List ℕ) where
@@ -89,13 +89,13 @@ module _ {one two : List ℕ} {markers : ℕ} {arena starts order : List ℕ} {c
         let h = r .nested .small .hops in
         joins-too-large one two out (h .first) (h .second) (r .nested .nest) l
 
-    pub hopped-long : LongKey arena starts order count → Joins one two out 15 0 0 out
+    pub hopped-long : LongKey rows count → Joins one two out 15 0 0 out
     hopped-long k = large (inr (inr (inr (inr (inl (long-word k))))))
 
     pub hopped-words : 4096 < used - 4 * count → Joins one two out 15 0 0 out
     hopped-words l = large (inr (inr (inr (inr (inr (omega (arith, bytes)))))))
 
-    module _ (short : LongKey arena starts order count → ⊥) (few : used - 4 * count ≤ 4096) where
+    module _ (short : LongKey rows count → ⊥) (few : used - 4 * count ≤ 4096) where
       small : TooLarge edition1 A B → ⊥
       small (inl l) = omega (arith, l .2, r .nested .small .words (l .0) (l .1))
       small (inr (inl l)) = omega (arith, r .nested .small .states)
@@ -114,7 +114,7 @@ module _ {one two : List ℕ} {markers : ℕ} {arena starts order : List ℕ} {c
 
       module _ (room : 300 + 8 * count + (used - 4 * count) ≤ length out) (sizes : Sizes)
           (m : sizes .markers ≡ markers) (n : sizes .rows ≡ count) (w : sizes .words ≡ used - 4 * count) where
-        lays : Lays one two sizes arena starts order out
+        lays : Lays one two sizes rows out
         lays =
             record {
               tables = nested-pair (r .nested);
@@ -127,11 +127,11 @@ module _ {one two : List ℕ} {markers : ℕ} {arena starts order : List ℕ} {c
               room = omega (arith, size);
             }
 
-        pub hopped-laying : Laying one two sizes arena starts order out
+        pub hopped-laying : Laying one two sizes rows out
         hopped-laying = lays-asked lays
 
         pub hopped-taken : {c : ℕ} {out′ : List ℕ}
-            → Appended out 0 (pairedFile one two sizes arena starts order) c out′ → Joins one two out 0 0 c out′
+            → Appended out 0 (pairedFile one two sizes rows) c out′ → Joins one two out 0 0 c out′
         hopped-taken {c} {out′} a =
             let h = r .nested .small .hops in
             let f = lays-file lays in
@@ -187,16 +187,16 @@ module _ {one two : List ℕ} (n : Nested one two) where
         go (inl l) = inl l
         go (inr l) = inr (inr l)
 
-    module _ {keys edges turns : List ℕ} {count used : ℕ} (h : Held (pushedKeys C D) keys edges turns count used) where
+    module _ {keys : List ℕ} {count used : ℕ} (h : Held (pushedKeys C D) keys count used) where
       marks-count : count ≡ length (marks C D)
       marks-count =
-          sym (words-count keys edges turns count)
+          sym (words-count keys count)
           ∙ ap length (h .are ∙ sym marks-are)
           ∙ length-map (marks C D) markKey
 
       pub nested-marks-over : 64 < count → Joins one two out 15 0 0 out
       nested-marks-over l = nested-large (inr (inr (inl (omega (arith, marks-count)))))
 
-      pub nested-rowed : count ≤ 64 → {arena starts order : List ℕ} {c u : ℕ}
-          → Held (joinedKeys C D) arena starts order c u → Rowed one two count arena starts order c u
+      pub nested-rowed : count ≤ 64 → {rows : List ℕ} {c u : ℕ}
+          → Held (joinedKeys C D) rows c u → Rowed one two count rows c u
       nested-rowed l j = record { nested = n; numbers = marks-count; few = l; held = j }

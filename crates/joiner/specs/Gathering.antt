@@ -32,19 +32,29 @@ pub record At (a b : List ℕ) (x q : ℕ) : Type 0 where
   pub row : x < rowCount a
   pub state : q < tableOf b .states
 
--- the shelf of marks: any that stands while marks are gathered, and all of them for the rows
-pub record Marked (wanted : Wanted) (a b keys edges turns : List ℕ) (count : ℕ) : Type 0 where
-  pub numbered : Numbered keys edges turns count
-  pub are : wanted ≡ Rows → wordsOf keys edges turns count ≡ map markKey (marks (tableOf a) (tableOf b))
+-- all joined markers stand on a shelf; and one of them
+pub record AllMarks (a b keys : List ℕ) (count : ℕ) : Type 0 where
+  pub numbered : Numbered keys count
+  pub are : wordsOf keys count ≡ map markKey (marks (tableOf a) (tableOf b))
+
+pub record MarkHere (a b keys : List ℕ) (i : ℕ) : Type 0 where
+  pub count : ℕ
+  pub all : AllMarks a b keys count
+  pub within : i < count
+
+-- the shelf of marks: anything while marks are gathered, and all of them for the rows
+abbrev pub Marked : Wanted → List ℕ → List ℕ → List ℕ → Type 0
+Marked Marks a b keys = Unit {0}
+Marked (Rows count) a b keys = AllMarks a b keys count
 
 -- "State (p, q) has number p times the second's state count plus q": what an ending of a call row gives, and one of
 -- another row, with the number of the mark that its reading started from
 abbrev pub callGoal : Wanted → List ℕ → List ℕ → ℕ → ℕ → Goal
 callGoal Marks a b x q = Mark (rowAt a x .marker)
-callGoal Rows a b x q =
+callGoal (Rows count) a b x q =
     let r = rowAt a x in
     let n = tableOf b .states in
-    Call (r .symbol) (pair n (r .from) q) (pair n (r .to) 0) (r .marker)
+    Call (r .symbol) (pair n (r .from) q) (pair n (r .to) 0) (r .marker) count
 
 abbrev pub closeGoal : List ℕ → List ℕ → ℕ → ℕ → ℕ → Goal
 closeGoal a b x q number =
@@ -58,9 +68,9 @@ abbrev pub planOf : Wanted → Class → List ℕ → List ℕ → ℕ → ℕ �
 planOf wanted unused a b x q = Skip
 planOf wanted call a b x q = Read (callGoal wanted a b x q)
 planOf Marks return a b x q = Skip
-planOf Rows return a b x q = FromMarks
+planOf (Rows count) return a b x q = FromMarks count
 planOf Marks internal a b x q = Skip
-planOf Rows internal a b x q = Read (closeGoal a b x q 0)
+planOf (Rows count) internal a b x q = Read (closeGoal a b x q 0)
 
 -- "the second table reads the word … from an empty stack of its own", or from another
 abbrev pub foundBy : List ℕ → List ℕ → List Word → Goal → ℕ → ℕ → List ℕ → List Word
@@ -80,7 +90,7 @@ givenFrom a b x q y =
 -- what a row gives from one state; from each state; what all rows give
 unfoldable pub givenAt : Wanted → List ℕ → List ℕ → ℕ → ℕ → List Word
 givenAt Marks a b x q = map markKey (pushed (tableOf a) (tableOf b) (rowAt a x) q)
-givenAt Rows a b x q =
+givenAt (Rows count) a b x q =
     let L = marks (tableOf a) (tableOf b) in
     map rowKey (rowsOf (tableOf a) (tableOf b) L (rowAt a x) q)
 
@@ -102,3 +112,7 @@ pushedKeys A B = map markKey (allMarks A B)
 
 abbrev pub joinedKeys : Table → Table → List Word
 joinedKeys A B = map rowKey (allRows A B)
+
+abbrev pub allKeys : Wanted → Table → Table → List Word
+allKeys Marks A B = pushedKeys A B
+allKeys (Rows count) A B = joinedKeys A B

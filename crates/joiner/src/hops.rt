@@ -1,69 +1,56 @@
 // Two tables become one: the tests in their order, each after the work that it needs. The output is written only once
 // all have passed.
-use crate::gathering;
+use crate::gathering::Wanted;
+use crate::gathering::gather;
+use crate::reading::TAPE;
 use laying::Sizes;
 use nesting::nests;
+use numbers::Number;
 use numbers::is_taken;
-use shelf::ROOM;
+use shelf::SHELF;
 use shelf::Shelf;
+ghost use mathlib.Core.Path.{_≡_};
 ghost use Rattle.words.specs.Lists.{Exact};
-ghost use Rattle.words.specs.Words.{Bytes};
 ghost use Rattle.meaning.specs.Sentences.{LongWord};
 ghost use Rattle.table.specs.File.{tableOf};
 ghost use Rattle.table.specs.Good.{first as edition, Good};
 ghost use Rattle.shelf.specs.Shelved.{Standing};
-ghost use Rattle.nesting.specs.Nesting.{Hops};
-ghost use Rattle.joiner.specs.Hopping.{Nested, LongKey, Marked, Rowed};
+ghost use Rattle.numbers.specs.declared.Number.the-variants.{BadTable};
+ghost use Rattle.joiner.specs.Hopping.{LongKey, Rowed};
 ghost use Rattle.joiner.specs.Calls.{JoinedBy};
 
-// What `join` answers.
-pub enum Joining {
-    Taken { count: usize },
-    BadTable { which: u8 },
-    NotNested,
-    TooLarge,
-    NoRoom,
+// What joining answers: its number, which table is bad (1 or 2; 0 where none is), and how many bytes it wrote.
+pub struct Joined {
+    pub number: Number,
+    pub table: u32,
+    pub count: usize,
 }
 
-// Joins two tables: writes the file of one that allows what the second allows on some output of the first.
-pub fn join(first: &[u8], second: &[u8], out: &mut [u8]) -> Joining
-    ensures { λ r. ⌜
-        JoinedBy (now (first .entry)) (now (second .entry)) (now (out .entry)) r (now (out .exit)) ⌝ }
+fn bad_table(table: u32) -> Joined
+    ensures { λ r. ⌜ (r .number ≡ BadTable) × (r .table ≡ table) × (r .count ≡ 0) ⌝ }
 {
-    if !is_taken(checking::check(first)) {
-        return Joining::BadTable { which: 1 };
+    Joined {
+        number: Number::BadTable,
+        table,
+        count: 0,
     }
-    on_first(first, second, out)
 }
 
-// With a good first table.
-fn on_first(first: &[u8], second: &[u8], out: &mut [u8]) -> Joining
-    requires { ⌜ (Good edition (now first)) × Bytes (now first) ⌝ }
-    ensures { λ r. ⌜
-        JoinedBy (now (first .entry)) (now (second .entry)) (now (out .entry)) r (now (out .exit)) ⌝ }
+fn refused(number: Number) -> Joined
+    ensures { λ r. ⌜ (r .number ≡ number) × (r .table ≡ 0) × (r .count ≡ 0) ⌝ }
 {
-    if !is_taken(checking::check(second)) {
-        return Joining::BadTable { which: 2 };
+    Joined {
+        number,
+        table: 0,
+        count: 0,
     }
-    on_both(first, second, out)
 }
 
-// And a good second one: whether they nest, and whether the first's words and the pairs of states are few enough.
-fn on_both(first: &[u8], second: &[u8], out: &mut [u8]) -> Joining
-    requires { ⌜ Hops (now first) (now second) ⌝ }
-    ensures { λ r. ⌜
-        JoinedBy (now (first .entry)) (now (second .entry)) (now (out .entry)) r (now (out .exit)) ⌝ }
+// Whether a file is good.
+fn good(file: &[u8]) -> bool
+    ensures { λ r. ⌜ Exact (Good edition (now (file .entry))) r ⌝ }
 {
-    if !nests(first, second) {
-        return Joining::NotNested;
-    }
-    if long_words(first) {
-        return Joining::TooLarge;
-    }
-    if 64 < table::states(first) * table::states(second) {
-        return Joining::TooLarge;
-    }
-    on_nested(first, second, out)
+    is_taken(checking::check(file))
 }
 
 // Whether a word of a table has over 16 bytes.
@@ -82,110 +69,14 @@ fn long_words(file: &[u8]) -> bool
     false
 }
 
-// And such tables: the joined markers are gathered. The rooms that the rows will need are not read for it.
-fn on_nested(first: &[u8], second: &[u8], out: &mut [u8]) -> Joining
-    requires { ⌜ Nested (now first) (now second) ⌝ }
-    ensures { λ r. ⌜
-        JoinedBy (now (first .entry)) (now (second .entry)) (now (out .entry)) r (now (out .exit)) ⌝ }
-{
-    let mut stack = [0u8; 32];
-    let mut said = [0u8; 4096];
-    let mut keys = [0u8; ROOM];
-    let mut edges = [0usize; 257];
-    let mut turns = [0u8; 256];
-    let mut arena = [0u8; ROOM];
-    let mut starts = [0usize; 257];
-    let mut order = [0u8; 256];
-    match gathering::marks(
-        first,
-        second,
-        &mut stack,
-        &mut said,
-        &arena,
-        &starts,
-        &order,
-        &mut keys,
-        &mut edges,
-        &mut turns,
-    ) {
-        Shelf::Full => Joining::TooLarge,
-        Shelf::Made { count, used } => on_marks(
-            first,
-            second,
-            out,
-            &mut stack,
-            &mut said,
-            &keys,
-            &edges,
-            &turns,
-            count,
-            used,
-            &mut arena,
-            &mut starts,
-            &mut order,
-        ),
-    }
-}
-
-// And the markers on a shelf: the joined rows are gathered.
-fn on_marks(
-    first: &[u8],
-    second: &[u8],
-    out: &mut [u8],
-    stack: &mut [u8; 32],
-    said: &mut [u8; 4096],
-    keys: &[u8; ROOM],
-    edges: &[usize; 257],
-    turns: &[u8; 256],
-    marks: usize,
-    used: usize,
-    arena: &mut [u8; ROOM],
-    starts: &mut [usize; 257],
-    order: &mut [u8; 256],
-) -> Joining
-    requires { ⌜ Marked (now first) (now second) (now keys) (now edges) (now turns) marks used ⌝ }
-    ensures { λ r. ⌜
-        JoinedBy (now (first .entry)) (now (second .entry)) (now (out .entry)) r (now (out .exit)) ⌝ }
-{
-    if 64 < marks {
-        return Joining::TooLarge;
-    }
-    match gathering::rows(
-        first,
-        second,
-        stack,
-        said,
-        keys,
-        edges,
-        turns,
-        marks,
-        arena,
-        starts,
-        order,
-    ) {
-        Shelf::Full => Joining::TooLarge,
-        Shelf::Made { count, used: bytes } => on_rows(
-            first,
-            second,
-            out,
-            marks,
-            arena,
-            starts,
-            order,
-            count,
-            bytes,
-        ),
-    }
-}
-
 // Whether a joined row has a word over 255 bytes: its key has four more.
-fn long_rows(arena: &[u8; ROOM], starts: &[usize; 257], order: &[u8; 256], count: usize) -> bool
-    requires { ⌜ Standing (now arena) (now starts) (now order) count ⌝ }
-    ensures { λ r. ⌜ Exact (LongKey (now (arena .entry)) (now (starts .entry)) (now (order .entry)) count) r ⌝ }
+fn long_rows(rows: &[u8; SHELF], count: usize) -> bool
+    requires { ⌜ Standing (now rows) count ⌝ }
+    ensures { λ r. ⌜ Exact (LongKey (now (rows .entry)) count) r ⌝ }
 {
     let mut i: usize = 0;
     while i < count {
-        if 259 < shelf::word(arena, starts, order, i).len() {
+        if 259 < shelf::word(rows, i).len() {
             return true;
         }
         i += 1;
@@ -193,38 +84,91 @@ fn long_rows(arena: &[u8; ROOM], starts: &[usize; 257], order: &[u8; 256], count
     false
 }
 
-// With the joined rows on a shelf: how long their words are, and whether there is room.
-fn on_rows(
+// The same with a room of the call's own.
+pub fn join(first: &[u8], second: &[u8], out: &mut [u8]) -> Joined
+    ensures { λ r. ⌜ JoinedBy (now (first .entry)) (now (second .entry)) (now (out .entry)) r (now (out .exit)) ⌝ }
+{
+    let mut marks = [0u8; SHELF];
+    let mut rows = [0u8; SHELF];
+    let mut tape = [0u8; TAPE];
+    join_in(first, second, out, &mut marks, &mut rows, &mut tape)
+}
+
+// Joins two tables: writes the file of one that allows what the second allows on some output of the first. The lent
+// room may hold anything: a shelf for the joined markers, one for the joined rows, and the tape of a reading.
+pub fn join_in(
+    first: &[u8],
+    second: &[u8],
+    out: &mut [u8],
+    marks: &mut [u8; SHELF],
+    rows: &mut [u8; SHELF],
+    tape: &mut [u8; TAPE],
+) -> Joined
+    ensures { λ r. ⌜ JoinedBy (now (first .entry)) (now (second .entry)) (now (out .entry)) r (now (out .exit)) ⌝ }
+{
+    if !good(first) {
+        return bad_table(1);
+    }
+    if !good(second) {
+        return bad_table(2);
+    }
+    if !nests(first, second) {
+        return refused(Number::NotNested);
+    }
+    if long_words(first) {
+        return refused(Number::TooLarge);
+    }
+    if 64 < table::states(first) * table::states(second) {
+        return refused(Number::TooLarge);
+    }
+    let Shelf::Made {
+        count: markers,
+        used: _,
+    } = gather(first, second, Wanted::Marks, rows, marks, tape)
+    else {
+        return refused(Number::TooLarge);
+    };
+    if 64 < markers {
+        return refused(Number::TooLarge);
+    }
+    let wanted = Wanted::Rows { count: markers };
+    let Shelf::Made { count, used } = gather(first, second, wanted, marks, rows, tape) else {
+        return refused(Number::TooLarge);
+    };
+    lay(first, second, out, markers, rows, count, used)
+}
+
+// Once all rows stand: those that are too large, and the room for the file.
+fn lay(
     first: &[u8],
     second: &[u8],
     out: &mut [u8],
     markers: usize,
-    arena: &[u8; ROOM],
-    starts: &[usize; 257],
-    order: &[u8; 256],
+    rows: &[u8; SHELF],
     count: usize,
     used: usize,
-) -> Joining
-    requires { ⌜
-        Rowed (now first) (now second) markers (now arena) (now starts) (now order) count used ⌝ }
-    ensures { λ r. ⌜
-        JoinedBy (now (first .entry)) (now (second .entry)) (now (out .entry)) r (now (out .exit)) ⌝ }
+) -> Joined
+    requires { ⌜ Rowed (now first) (now second) markers (now rows) count used ⌝ }
+    ensures { λ r. ⌜ JoinedBy (now (first .entry)) (now (second .entry)) (now (out .entry)) r (now (out .exit)) ⌝ }
 {
-    if long_rows(arena, starts, order, count) {
-        return Joining::TooLarge;
+    if long_rows(rows, count) {
+        return refused(Number::TooLarge);
     }
     let words = used - 4 * count;
     if 4096 < words {
-        return Joining::TooLarge;
+        return refused(Number::TooLarge);
     }
     if out.len() < 300 + 8 * count + words {
-        return Joining::NoRoom;
+        return refused(Number::NoRoom);
     }
     let sizes = Sizes {
         markers,
         rows: count,
         words,
     };
-    let count = laying::write(first, second, out, sizes, arena, starts, order);
-    Joining::Taken { count }
+    Joined {
+        number: Number::Taken,
+        table: 0,
+        count: laying::write(first, second, out, sizes, rows),
+    }
 }

@@ -4,5 +4,7 @@ mod gathering;
 mod hops;
 mod reading;
 
-pub use hops::Joining;
+pub use hops::Joined;
 pub use hops::join;
+pub use hops::join_in;
+pub use reading::TAPE;

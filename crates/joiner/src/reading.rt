@@ -1,6 +1,6 @@
 // The second table reads a word of the first: every run over it from a state and a stack, and what each ending gives is
-// put on a shelf. The stack stands in the lent room from its bottom.
-use shelf::ROOM;
+// put on a shelf.
+use shelf::SHELF;
 use shelf::Shelf;
 use shelf::full;
 use shelf::place;
@@ -20,11 +20,31 @@ ghost use Rattle.table.specs.File.{rowCount, wordOf, rowAt, tableOf};
 ghost use Rattle.table.specs.Good.{first, Good};
 ghost use Rattle.table.specs.Calls.{meant};
 ghost use Rattle.shelf.specs.Shelved.{wordsOf, Ready, Gathers};
-ghost use Rattle.joiner.specs.Reading.{configOf, Tested, heightAfter, Exchanged, Appended, Untouched};
-ghost use Rattle.joiner.specs.Reading.{keysOf, Suited, findings, findingsOf, Reads, Numbered, NumberOf};
+ghost use Rattle.joiner.specs.Reading.{configOf, Tested, heightAfter, Exchanged, Appended, goesOn, marksOf};
+ghost use Rattle.joiner.specs.Reading.{keysOf, Suited, findings, findingsOf, Reads, Branches, Ranked, Numbered};
+ghost use Rattle.joiner.specs.Reading.{NumberOf, Untouched};
 
-// What an ending gives: the mark that a joined call row pushes; a joined call row; or a joined row that must end with
-// nothing on the second's stack. Its state is a number above `base`.
+// The tape: the stack from its bottom, 32 bytes, and from there on what was written.
+pub const TAPE: usize = 4128;
+
+pub const WRITTEN: usize = 32;
+
+// Where a reading stands: its state, how high its stack is, and where what it wrote ends on the tape.
+pub struct Cursor {
+    pub state: usize,
+    pub height: usize,
+    pub end: usize,
+}
+
+// A row of a class that may be taken from there.
+pub struct Turn {
+    pub class: Class,
+    pub row: usize,
+    pub cursor: Cursor,
+}
+
+// What an ending gives: the mark that a joined call row pushes; a joined call row, its marker's number looked up among
+// so many marks; or a joined row that must end with nothing on the second's stack. Its state is a number above `base`.
 pub enum Goal {
     Mark {
         marker: u8,
@@ -34,6 +54,7 @@ pub enum Goal {
         from: u8,
         base: u8,
         marker: u8,
+        marks: usize,
     },
     Close {
         symbol: u8,
@@ -43,22 +64,18 @@ pub enum Goal {
     },
 }
 
-// Whether a row of a class can be taken from a state, with this stack.
-fn fits(
-    second: &[u8],
-    class: Class,
-    r: usize,
-    state: usize,
-    stack: &[u8; 32],
-    height: usize,
-) -> bool
-    requires { ⌜ (Good first (now second)) × (r < rowCount (now second)) × (height ≤ 32) ⌝ }
-    ensures { λ b. ⌜ Tested (meant class) (rowAt (now (second .entry)) r) state (now (stack .entry)) height b ⌝ }
+// Whether a row can be taken, with this stack.
+fn fits(second: &[u8], turn: Turn, tape: &[u8; TAPE]) -> bool
+    requires { ⌜ (Good first (now second)) × (turn .row < rowCount (now second)) × (turn .cursor .height ≤ 32) ⌝ }
+    ensures { λ b. ⌜
+        Tested (meant (turn .class)) (rowAt (now (second .entry)) (turn .row)) (turn .cursor) (now (tape .entry)) b ⌝ }
 {
-    let all = &stack[..];
-    if state != table::row_from(second, r) {
+    let all = &tape[..];
+    let height = turn.cursor.height;
+    if turn.cursor.state != table::row_from(second, turn.row) {
         return false;
     }
+    let class = turn.class;
     match class {
         Class::Unused => false,
         Class::Call => true,
@@ -66,7 +83,7 @@ fn fits(
             if height == 0 {
                 return false;
             }
-            wide(all[height - 1]) == table::row_marker(second, r)
+            wide(all[height - 1]) == table::row_marker(second, turn.row)
         }
         Class::Internal => true,
     }
@@ -86,43 +103,35 @@ fn height_after(class: Class, height: usize) -> usize
 }
 
 // Puts a byte at a place, and gives the one that stood there.
-fn exchange(stack: &mut [u8; 32], at: usize, byte: u8) -> u8
-    requires { ⌜ at < 32 ⌝ }
-    ensures { λ r. ⌜ Exchanged (now (stack .entry)) at byte r (now (stack .exit)) ⌝ }
+fn exchange(tape: &mut [u8; TAPE], at: usize, byte: u8) -> u8
+    requires { ⌜ at < 4128 ⌝ }
+    ensures { λ r. ⌜ Exchanged (now (tape .entry)) at byte r (now (tape .exit)) ⌝ }
 {
-    let all = &mut stack[..];
+    let all = &mut tape[..];
     let old = all[at];
     all[at] = byte;
     old
 }
 
-// Appends the word of a row to what was written so far, and gives how long that is now.
-fn append(second: &[u8], r: usize, out: &mut [u8; 4096], long: usize) -> usize
-    requires { ⌜ (Good first (now second)) × (r < rowCount (now second)) × (long + 255 ≤ 4096) ⌝ }
-    ensures { λ longer. ⌜ Appended (now (out .entry)) long (wordOf (now (second .entry)) r) longer (now (out .exit)) ⌝ }
+// Appends the word of a row to what was written so far, and gives where that ends now.
+fn append(second: &[u8], r: usize, tape: &mut [u8; TAPE], end: usize) -> usize
+    requires { ⌜ (Good first (now second)) × (r < rowCount (now second)) × (end + 255 ≤ 4128) ⌝ }
+    ensures { λ longer. ⌜
+        Appended (now (tape .entry)) end (wordOf (now (second .entry)) r) longer (now (tape .exit)) ⌝ }
 {
     let word = table::row_word(second, r);
-    let all = &mut out[..];
-    copy(all, long, word);
-    long + word.len()
+    let all = &mut tape[..];
+    copy(all, end, word);
+    end + word.len()
 }
 
 // Puts the mark of a marker and the stack.
-fn put_mark(
-    marker: u8,
-    stack: &[u8],
-    arena: &mut [u8; ROOM],
-    starts: &mut [usize; 257],
-    order: &mut [u8; 256],
-    shelf: Shelf,
-) -> Shelf
-    requires { ⌜ Ready (now arena) (now starts) (now order) shelf ⌝ }
-    ensures { λ r. ⌜ Gathers ((marker ∷ now (stack .entry)) ∷ [])
-        (now (arena .entry)) (now (starts .entry)) (now (order .entry)) shelf
-        r (now (arena .exit)) (now (starts .exit)) (now (order .exit)) ⌝ }
+fn put_mark(marker: u8, stack: &[u8], rows: &mut [u8; SHELF], shelf: Shelf) -> Shelf
+    requires { ⌜ Ready (now rows) shelf ⌝ }
+    ensures { λ r. ⌜ Gathers ((marker ∷ now (stack .entry)) ∷ []) (now (rows .entry)) shelf r (now (rows .exit)) ⌝ }
 {
     let head = [marker; 1];
-    put(arena, starts, order, shelf, &head, stack)
+    put(rows, shelf, &head, stack)
 }
 
 // Puts a joined row.
@@ -132,75 +141,56 @@ fn put_row(
     marker: u8,
     to: u8,
     out: &[u8],
-    arena: &mut [u8; ROOM],
-    starts: &mut [usize; 257],
-    order: &mut [u8; 256],
+    rows: &mut [u8; SHELF],
     shelf: Shelf,
 ) -> Shelf
-    requires { ⌜ Ready (now arena) (now starts) (now order) shelf ⌝ }
+    requires { ⌜ Ready (now rows) shelf ⌝ }
     ensures { λ r. ⌜ Gathers ((symbol ∷ from ∷ marker ∷ to ∷ now (out .entry)) ∷ [])
-        (now (arena .entry)) (now (starts .entry)) (now (order .entry)) shelf
-        r (now (arena .exit)) (now (starts .exit)) (now (order .exit)) ⌝ }
+        (now (rows .entry)) shelf r (now (rows .exit)) ⌝ }
 {
     let head = [symbol, from, marker, to];
-    put(arena, starts, order, shelf, &head, out)
+    put(rows, shelf, &head, out)
 }
 
 // The number of a mark, from 1.
-fn mark_number(
-    keys: &[u8; ROOM],
-    edges: &[usize; 257],
-    turns: &[u8; 256],
-    marks: usize,
-    marker: u8,
-    stack: &[u8],
-) -> u8
-    requires { ⌜ Numbered (now keys) (now edges) (now turns) marks ⌝ }
-    ensures { λ r. ⌜ NumberOf (wordsOf (now (keys .entry)) (now (edges .entry)) (now (turns .entry)) marks)
-        (marker ∷ now (stack .entry)) r ⌝ }
+fn mark_number(marks: &[u8; SHELF], count: usize, marker: u8, stack: &[u8]) -> u8
+    requires { ⌜ Numbered (now marks) count ⌝ }
+    ensures { λ r. ⌜ NumberOf (wordsOf (now (marks .entry)) count) (marker ∷ now (stack .entry)) r ⌝ }
 {
     let head = [marker; 1];
-    let at = place(keys, edges, turns, marks, &head, stack);
+    let at = place(marks, count, &head, stack);
     (at + 1) as u8
 }
 
-// What an ending gives, of the whole stack and all that was written. The shelf of marks stands in `keys`, `edges` and
-// `turns`.
+// What an ending gives, of the whole stack and all that was written.
 fn found(
     state: usize,
     stack: &[u8],
     out: &[u8],
     goal: Goal,
-    keys: &[u8; ROOM],
-    edges: &[usize; 257],
-    turns: &[u8; 256],
-    marks: usize,
-    arena: &mut [u8; ROOM],
-    starts: &mut [usize; 257],
-    order: &mut [u8; 256],
+    marks: &[u8; SHELF],
+    rows: &mut [u8; SHELF],
     shelf: Shelf,
 ) -> Shelf
-    requires { ⌜ Numbered (now keys) (now edges) (now turns) marks ⌝ }
-    requires { ⌜ Suited (wordsOf (now keys) (now edges) (now turns) marks) goal
-        (config state (reverse (now stack)) (now out) ∷ []) ⌝ }
-    requires { ⌜ Ready (now arena) (now starts) (now order) shelf ⌝ }
-    ensures { λ r. ⌜ Gathers
-        (keysOf (wordsOf (now (keys .entry)) (now (edges .entry)) (now (turns .entry)) marks) goal
+    requires { ⌜ Ranked (now marks) goal ⌝ }
+    requires { ⌜ Suited (marksOf (now marks) goal) goal (config state (reverse (now stack)) (now out) ∷ []) ⌝ }
+    requires { ⌜ Ready (now rows) shelf ⌝ }
+    ensures { λ r. ⌜ Gathers (keysOf (marksOf (now (marks .entry)) goal) goal
         (config state (reverse (now (stack .entry))) (now (out .entry))))
-        (now (arena .entry)) (now (starts .entry)) (now (order .entry)) shelf
-        r (now (arena .exit)) (now (starts .exit)) (now (order .exit)) ⌝ }
+        (now (rows .entry)) shelf r (now (rows .exit)) ⌝ }
 {
     match goal {
-        Goal::Mark { marker } => put_mark(marker, stack, arena, starts, order, shelf),
+        Goal::Mark { marker } => put_mark(marker, stack, rows, shelf),
         Goal::Call {
             symbol,
             from,
             base,
             marker,
+            marks: count,
         } => {
-            let number = mark_number(keys, edges, turns, marks, marker, stack);
+            let number = mark_number(marks, count, marker, stack);
             let to = (wide(base) + state) as u8;
-            put_row(symbol, from, number, to, out, arena, starts, order, shelf)
+            put_row(symbol, from, number, to, out, rows, shelf)
         }
         Goal::Close {
             symbol,
@@ -212,218 +202,128 @@ fn found(
                 return shelf;
             }
             let to = (wide(base) + state) as u8;
-            put_row(symbol, from, marker, to, out, arena, starts, order, shelf)
+            put_row(symbol, from, marker, to, out, rows, shelf)
         }
     }
 }
 
-// All endings that go on by a row of a class, if it fits; none is looked for once the shelf is full. The place that a
-// call's marker takes gets back what it held.
+// All endings that go on by a row, if it fits; none is looked for once the shelf is full. The place that a call's
+// marker takes gets back what it held.
 fn branch(
     second: &[u8],
-    class: Class,
-    r: usize,
     rest: &[u8],
-    state: usize,
-    stack: &mut [u8; 32],
-    height: usize,
-    out: &mut [u8; 4096],
-    long: usize,
+    turn: Turn,
     goal: Goal,
-    keys: &[u8; ROOM],
-    edges: &[usize; 257],
-    turns: &[u8; 256],
-    marks: usize,
-    arena: &mut [u8; ROOM],
-    starts: &mut [usize; 257],
-    order: &mut [u8; 256],
+    marks: &[u8; SHELF],
+    rows: &mut [u8; SHELF],
+    tape: &mut [u8; TAPE],
     shelf: Shelf,
 ) -> Shelf
-    requires { ⌜ (Reads (now second) (height + 1) (long + 255) (now rest)) × (r < rowCount (now second)) ⌝ }
-    requires { ⌜ Numbered (now keys) (now edges) (now turns) marks ⌝ }
-    requires { ⌜ Suited (wordsOf (now keys) (now edges) (now turns) marks) goal
-        (each (endings (tableOf (now second)) (now rest))
-        (taken (meant class) (rowAt (now second) r) (configOf state (now stack) height (now out) long))) ⌝ }
-    requires { ⌜ Ready (now arena) (now starts) (now order) shelf ⌝ }
-    ensures { λ a. ⌜ Gathers
-        (findingsOf (now (second .entry))
-        (wordsOf (now (keys .entry)) (now (edges .entry)) (now (turns .entry)) marks) goal
-        (now (rest .entry))
-        (taken (meant class) (rowAt (now (second .entry)) r)
-        (configOf state (now (stack .entry)) height (now (out .entry)) long)))
-        (now (arena .entry)) (now (starts .entry)) (now (order .entry)) shelf
-        a (now (arena .exit)) (now (starts .exit)) (now (order .exit)) ⌝ }
-    ensures { λ _. ⌜ Untouched (now (stack .entry)) (now (out .entry)) long (now (stack .exit)) (now (out .exit)) ⌝ }
+    requires { ⌜ Branches (now second) turn (now rest) ⌝ }
+    requires { ⌜ Ranked (now marks) goal ⌝ }
+    requires { ⌜ Suited (marksOf (now marks) goal) goal
+        (each (endings (tableOf (now second)) (now rest)) (goesOn (now second) turn (now tape))) ⌝ }
+    requires { ⌜ Ready (now rows) shelf ⌝ }
+    ensures { λ a. ⌜ Gathers (findingsOf (now (second .entry)) (marksOf (now (marks .entry)) goal) goal
+        (now (rest .entry)) (goesOn (now (second .entry)) turn (now (tape .entry))))
+        (now (rows .entry)) shelf a (now (rows .exit)) ⌝ }
+    ensures { λ _. ⌜ Untouched (now (tape .entry)) (turn .cursor .end) (now (tape .exit)) ⌝ }
 {
     if full(shelf) {
         return shelf;
     }
-    if !fits(second, class, r, state, stack, height) {
+    if !fits(second, turn, tape) {
         return shelf;
     }
-    let kept = exchange(stack, height, table::row_marker(second, r) as u8);
-    let longer = append(second, r, out, long);
-    let to = table::row_to(second, r);
-    let higher = height_after(class, height);
-    let made = read(
-        second,
-        rest,
-        to,
-        stack,
-        higher,
-        out,
-        longer,
-        goal,
-        keys,
-        edges,
-        turns,
-        marks,
-        arena,
-        starts,
-        order,
-        shelf,
-    );
-    exchange(stack, height, kept);
+    let height = turn.cursor.height;
+    let kept = exchange(tape, height, table::row_marker(second, turn.row) as u8);
+    let end = append(second, turn.row, tape, turn.cursor.end);
+    let class = turn.class;
+    let next = Cursor {
+        state: table::row_to(second, turn.row),
+        height: height_after(class, height),
+        end,
+    };
+    let made = read(second, rest, next, goal, marks, rows, tape, shelf);
+    exchange(tape, height, kept);
     made
 }
 
-// All endings of the runs over a word, from a state, with a stack and what was written so far. Both are left as they
-// were.
+// All endings of the runs over a word, from a cursor. The stack and what was written before are left as they were.
 pub fn read(
     second: &[u8],
     word: &[u8],
-    state: usize,
-    stack: &mut [u8; 32],
-    height: usize,
-    out: &mut [u8; 4096],
-    long: usize,
+    cursor: Cursor,
     goal: Goal,
-    keys: &[u8; ROOM],
-    edges: &[usize; 257],
-    turns: &[u8; 256],
-    marks: usize,
-    arena: &mut [u8; ROOM],
-    starts: &mut [usize; 257],
-    order: &mut [u8; 256],
+    marks: &[u8; SHELF],
+    rows: &mut [u8; SHELF],
+    tape: &mut [u8; TAPE],
     shelf: Shelf,
 ) -> Shelf
-    requires { ⌜ Reads (now second) height long (now word) ⌝ }
-    requires { ⌜ Numbered (now keys) (now edges) (now turns) marks ⌝ }
-    requires { ⌜ Suited (wordsOf (now keys) (now edges) (now turns) marks) goal
-        (endings (tableOf (now second)) (now word) (configOf state (now stack) height (now out) long)) ⌝ }
-    requires { ⌜ Ready (now arena) (now starts) (now order) shelf ⌝ }
-    ensures { λ a. ⌜ Gathers
-        (findings (now (second .entry))
-        (wordsOf (now (keys .entry)) (now (edges .entry)) (now (turns .entry)) marks) goal
-        (now (word .entry)) (configOf state (now (stack .entry)) height (now (out .entry)) long))
-        (now (arena .entry)) (now (starts .entry)) (now (order .entry)) shelf
-        a (now (arena .exit)) (now (starts .exit)) (now (order .exit)) ⌝ }
-    ensures { λ _. ⌜ Untouched (now (stack .entry)) (now (out .entry)) long (now (stack .exit)) (now (out .exit)) ⌝ }
+    requires { ⌜ Reads (now second) cursor (now word) ⌝ }
+    requires { ⌜ Ranked (now marks) goal ⌝ }
+    requires { ⌜ Suited (marksOf (now marks) goal) goal
+        (endings (tableOf (now second)) (now word) (configOf cursor (now tape))) ⌝ }
+    requires { ⌜ Ready (now rows) shelf ⌝ }
+    ensures { λ a. ⌜ Gathers (findings (now (second .entry)) (marksOf (now (marks .entry)) goal) goal
+        (now (word .entry)) (configOf cursor (now (tape .entry))))
+        (now (rows .entry)) shelf a (now (rows .exit)) ⌝ }
+    ensures { λ _. ⌜ Untouched (now (tape .entry)) (cursor .end) (now (tape .exit)) ⌝ }
 {
     if word.len() == 0 {
-        let markers = &stack[..];
-        let written = &out[..];
+        let all = &tape[..];
+        let height = cursor.height;
+        let end = cursor.end;
         return found(
-            state,
-            &markers[..height],
-            &written[..long],
+            cursor.state,
+            &all[..height],
+            &all[WRITTEN..end],
             goal,
-            keys,
-            edges,
-            turns,
             marks,
-            arena,
-            starts,
-            order,
+            rows,
             shelf,
         );
     }
-    read_on(
-        second,
-        word,
-        state,
-        stack,
-        height,
-        out,
-        long,
-        goal,
-        keys,
-        edges,
-        turns,
-        marks,
-        arena,
-        starts,
-        order,
-        shelf,
-    )
+    read_on(second, word, cursor, goal, marks, rows, tape, shelf)
 }
 
 // The same of a word that is not empty, by each row of its first byte from the state.
 fn read_on(
     second: &[u8],
     word: &[u8],
-    state: usize,
-    stack: &mut [u8; 32],
-    height: usize,
-    out: &mut [u8; 4096],
-    long: usize,
+    cursor: Cursor,
     goal: Goal,
-    keys: &[u8; ROOM],
-    edges: &[usize; 257],
-    turns: &[u8; 256],
-    marks: usize,
-    arena: &mut [u8; ROOM],
-    starts: &mut [usize; 257],
-    order: &mut [u8; 256],
+    marks: &[u8; SHELF],
+    rows: &mut [u8; SHELF],
+    tape: &mut [u8; TAPE],
     shelf: Shelf,
 ) -> Shelf
-    requires { ⌜ (Reads (now second) height long (now word)) × (0 < length (now word)) ⌝ }
-    requires { ⌜ Numbered (now keys) (now edges) (now turns) marks ⌝ }
-    requires { ⌜ Suited (wordsOf (now keys) (now edges) (now turns) marks) goal
-        (endings (tableOf (now second)) (now word) (configOf state (now stack) height (now out) long)) ⌝ }
-    requires { ⌜ Ready (now arena) (now starts) (now order) shelf ⌝ }
-    ensures { λ a. ⌜ Gathers
-        (findings (now (second .entry))
-        (wordsOf (now (keys .entry)) (now (edges .entry)) (now (turns .entry)) marks) goal
-        (now (word .entry)) (configOf state (now (stack .entry)) height (now (out .entry)) long))
-        (now (arena .entry)) (now (starts .entry)) (now (order .entry)) shelf
-        a (now (arena .exit)) (now (starts .exit)) (now (order .exit)) ⌝ }
-    ensures { λ _. ⌜ Untouched (now (stack .entry)) (now (out .entry)) long (now (stack .exit)) (now (out .exit)) ⌝ }
+    requires { ⌜ (Reads (now second) cursor (now word)) × (0 < length (now word)) ⌝ }
+    requires { ⌜ Ranked (now marks) goal ⌝ }
+    requires { ⌜ Suited (marksOf (now marks) goal) goal
+        (endings (tableOf (now second)) (now word) (configOf cursor (now tape))) ⌝ }
+    requires { ⌜ Ready (now rows) shelf ⌝ }
+    ensures { λ a. ⌜ Gathers (findings (now (second .entry)) (marksOf (now (marks .entry)) goal) goal
+        (now (word .entry)) (configOf cursor (now (tape .entry))))
+        (now (rows .entry)) shelf a (now (rows .exit)) ⌝ }
+    ensures { λ _. ⌜ Untouched (now (tape .entry)) (cursor .end) (now (tape .exit)) ⌝ }
 {
     let symbol = word[0];
     let rest = &word[1..];
     let class = table::class_of(second, symbol);
     let n = table::row_count(second);
     let mut made = shelf;
-    let mut r = table::first_row(second, symbol, state);
-    while r < n {
-        if table::row_symbol(second, r) != wide(symbol) {
+    let mut row = table::first_row(second, symbol, cursor.state);
+    while row < n {
+        if table::row_symbol(second, row) != wide(symbol) {
             return made;
         }
-        if table::row_from(second, r) != state {
+        if table::row_from(second, row) != cursor.state {
             return made;
         }
-        made = branch(
-            second,
-            class,
-            r,
-            rest,
-            state,
-            stack,
-            height,
-            out,
-            long,
-            goal,
-            keys,
-            edges,
-            turns,
-            marks,
-            arena,
-            starts,
-            order,
-            made,
-        );
-        r += 1;
+        let turn = Turn { class, row, cursor };
+        made = branch(second, rest, turn, goal, marks, rows, tape, made);
+        row += 1;
     }
     made
 }

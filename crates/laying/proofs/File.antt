@@ -62,8 +62,7 @@ module _ (file : List ℕ) (g : Good edition file) where
   unfolding tableOf
   depth-small = g .head .depthCap .1
 
-module _ {a b : List ℕ} {sizes : Sizes} {arena starts order out : List ℕ}
-    (l : Laying a b sizes arena starts order out) where
+module _ {a b : List ℕ} {sizes : Sizes} {shelf out : List ℕ} (l : Laying a b sizes shelf out) where
   abbrev A : Table
   A = tableOf a
 
@@ -71,7 +70,7 @@ module _ {a b : List ℕ} {sizes : Sizes} {arena starts order out : List ℕ}
   B = tableOf b
 
   abbrev rows : List Row
-  rows = rowsIn arena starts order (sizes .rows)
+  rows = rowsIn shelf (sizes .rows)
 
   abbrev J : Table
   J = paired A B (sizes .markers) rows
@@ -88,7 +87,7 @@ module _ {a b : List ℕ} {sizes : Sizes} {arena starts order out : List ℕ}
   front-long = simp length-append (omega (arith, part-long a (l .tables .first)))
 
   rows-long : length (rowsBytes 0 rows) ≡ rowSize * sizes .rows
-  rows-long = omega (arith, rows-length 0 rows, rows-count arena starts order (sizes .rows))
+  rows-long = omega (arith, rows-length 0 rows, rows-count shelf (sizes .rows))
 
   pub rows-fit : {r : ℕ} {out′ : List ℕ} → Appended out 0 front r out′ → Room out′ r (rowsBytes 0 rows)
   rows-fit p = record { fits = omega (arith, p .next, front-long, rows-long, appended-whole p, l .room) }
@@ -112,7 +111,7 @@ module _ {a b : List ℕ} {sizes : Sizes} {arena starts order out : List ℕ}
   file-parts : front ++ rowsBytes 0 rows ++ said rows ≡ fileOf J
   unfolding fileOf
   file-parts =
-      let n = sym (rows-count arena starts order (sizes .rows)) in
+      let n = sym (rows-count shelf (sizes .rows)) in
       let w = l .words in
       let k = class-part a (l .tables .first) J refl in
       (λ i.
@@ -127,5 +126,5 @@ module _ {a b : List ℕ} {sizes : Sizes} {arena starts order out : List ℕ}
       (append-assoc (headBytes J ++ contentBytes J ++ classBytes J) (setBytes (J .starting)) (setBytes (J .final))))
 
   pub all-put : {r : ℕ} {out′ : List ℕ} → Appended out 0 (front ++ rowsBytes 0 rows ++ said rows) r out′
-      → Appended out 0 (pairedFile a b sizes arena starts order) r out′
+      → Appended out 0 (pairedFile a b sizes shelf) r out′
   all-put {r} {out′} p = subst (λ (w : List ℕ). Appended out 0 w r out′) file-parts p

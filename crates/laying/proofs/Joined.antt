@@ -25,23 +25,23 @@ use Rattle.laying.specs.declared.Sizes.{Sizes}
 use Rattle.laying.proofs.Rows.{key-row}
 
 -- as many rows as keys stand
-module _ (R : List Row) (arena starts order : List ℕ) (n : ℕ) (are : wordsOf arena starts order n ≡ map rowKey R) where
+module _ (R : List Row) (rows : List ℕ) (n : ℕ) (are : wordsOf rows n ≡ map rowKey R) where
   pub count-is : n ≡ length R
   count-is =
-      sym (words-count arena starts order n) ∙ ap length are ∙ length-map R rowKey
+      sym (words-count rows n) ∙ ap length are ∙ length-map R rowKey
 
-  rows-are : rowsIn arena starts order n ≡ R
+  rows-are : rowsIn rows n ≡ R
   rows-are = ap (map keyRow) are ∙ key-row R
 
-  keys-are : ((r : Row) → r among R → length (r .word) ≤ 255) → (i : ℕ) → i < n → Key (wordAt arena starts order i)
+  keys-are : ((r : Row) → r among R → length (r .word) ≤ 255) → (i : ℕ) → i < n → Key (wordAt rows i)
   keys-are short i lt =
       of-row
       (Memᴰ·of-map rowKey R
-      (subst (λ (l : List Word). wordAt arena starts order i among l) are
-      (Memᴰ·map (wordAt arena starts order) (upTo-in n i lt))))
+      (subst (λ (l : List Word). wordAt rows i among l) are
+      (Memᴰ·map (wordAt rows) (upTo-in n i lt))))
     where
-      of-row : (x : (r : Row) × (r among R) × (rowKey r ≡ wordAt arena starts order i))
-          → Key (wordAt arena starts order i)
+      of-row : (x : (r : Row) × (r among R) × (rowKey r ≡ wordAt rows i))
+          → Key (wordAt rows i)
       of-row x =
           let h = short (x .0) (x .1) in
           subst Key (x .2) (record { whole = omega arith; short = omega arith })
@@ -74,51 +74,51 @@ outgrown-rows R o = go o (below-or 256 (length J))
     go (inr h) (inr m) = inr (omega (arith, bytes))
 
 -- after the keys of rows were put, the rows stand once each in order, and their words have what is left of the bytes
-module _ (R : List Row) {arena starts order : List ℕ} {count used : ℕ}
-    (s : Held (map rowKey R) arena starts order count used) where
-  pub stood-keys : wordsOf arena starts order count ≡ map rowKey (arranged rowKey R)
+module _ (R : List Row) {rows : List ℕ} {count used : ℕ}
+    (s : Held (map rowKey R) rows count used) where
+  pub stood-keys : wordsOf rows count ≡ map rowKey (arranged rowKey R)
   stood-keys = s .are ∙ sym (keys-kept rowKey R)
 
   pub stood-words : used ≡ 4 * count + length (said (arranged rowKey R))
   stood-words =
       let J = arranged rowKey R in
-      let n = count-is J arena starts order count stood-keys in
+      let n = count-is J rows count stood-keys in
       omega (arith, s .filled, ap total (keys-kept rowKey R), total-rows J)
 
 -- the rooms lay out the joined table of two files, and there is room for its file
-pub record Lays (one two : List ℕ) (sizes : Sizes) (arena starts order out : List ℕ) : Type 0 where
+pub record Lays (one two : List ℕ) (sizes : Sizes) (rows out : List ℕ) : Type 0 where
   pub tables : Pair one two
-  pub standing : Standing arena starts order (sizes .rows)
-  pub are : wordsOf arena starts order (sizes .rows) ≡ map rowKey (joined (tableOf one) (tableOf two) .rows)
+  pub standing : Standing rows (sizes .rows)
+  pub are : wordsOf rows (sizes .rows) ≡ map rowKey (joined (tableOf one) (tableOf two) .rows)
   pub short : (r : Row) → r among joined (tableOf one) (tableOf two) .rows → length (r .word) ≤ 255
   pub markers : sizes .markers ≡ length (marks (tableOf one) (tableOf two))
   pub few : sizes .markers ≤ 64
   pub words : sizes .words ≡ length (said (joined (tableOf one) (tableOf two) .rows))
   pub room : fileSize (joined (tableOf one) (tableOf two)) ≤ length out
 
-module _ {one two : List ℕ} {sizes : Sizes} {arena starts order out : List ℕ}
-    (l : Lays one two sizes arena starts order out) where
+module _ {one two : List ℕ} {sizes : Sizes} {rows out : List ℕ}
+    (l : Lays one two sizes rows out) where
   abbrev J : Table
   J = joined (tableOf one) (tableOf two)
 
-  same-rows : rowsIn arena starts order (sizes .rows) ≡ J .rows
-  same-rows = rows-are (J .rows) arena starts order (sizes .rows) (l .are)
+  same-rows : rowsIn rows (sizes .rows) ≡ J .rows
+  same-rows = rows-are (J .rows) rows (sizes .rows) (l .are)
 
-  pub lays-asked : Laying one two sizes arena starts order out
+  pub lays-asked : Laying one two sizes rows out
   lays-asked =
-      let n = count-is (J .rows) arena starts order (sizes .rows) (l .are) in
+      let n = count-is (J .rows) rows (sizes .rows) (l .are) in
       record {
         tables = l .tables;
         markers = omega (arith, l .few);
         keys = record {
           standing = l .standing;
-          each = keys-are (J .rows) arena starts order (sizes .rows) (l .are) (l .short);
+          each = keys-are (J .rows) rows (sizes .rows) (l .are) (l .short);
         };
         words = rw same-rows (l .words);
         room = omega (arith, l .words, l .room);
       }
 
-  pub lays-file : pairedFile one two sizes arena starts order ≡ joinedFile one two
+  pub lays-file : pairedFile one two sizes rows ≡ joinedFile one two
   lays-file =
       let m = l .markers in
       let r = same-rows in

@@ -37,21 +37,21 @@ key-put start w k {out} {at} {next} {out′} =
     subst (λ (b : List ℕ). Appended out at b next out′)
     (ap₂ (λ (x y : ℕ). getD w 0 0 ∷ getD w 1 0 ∷ getD w 3 0 ∷ getD w 2 0 ∷ littleEndian 2 start ++ x ∷ y ∷ []) e f)
 
-module _ (arena starts order : List ℕ) where
+module _ (shelf : List ℕ) where
   abbrev word : ℕ → Word
-  word i = wordAt arena starts order i
+  word i = wordAt shelf i
 
   abbrev rows : ℕ → List Row
-  rows n = rowsIn arena starts order n
+  rows n = rowsIn shelf n
 
   pub rows-count : (n : ℕ) → length (rows n) ≡ n
-  rows-count n = length-map (wordsOf arena starts order n) keyRow ∙ words-count arena starts order n
+  rows-count n = length-map (wordsOf shelf n) keyRow ∙ words-count shelf n
 
   -- one more
   rows-more : (i : ℕ) → rows (suc i) ≡ rows i ++ keyRow (word i) ∷ []
   rows-more i =
       ap (map keyRow) (map-append word (upTo i) (i ∷ []))
-      ∙ map-append keyRow (wordsOf arena starts order i) (word i ∷ [])
+      ∙ map-append keyRow (wordsOf shelf i) (word i ∷ [])
 
   bytes-more : (i : ℕ)
       → rowsBytes 0 (rows (suc i)) ≡ rowsBytes 0 (rows i) ++ rowBytes (length (said (rows i))) (keyRow (word i))
@@ -83,13 +83,13 @@ module _ (arena starts order : List ℕ) where
   -- the first `i` of `count` rows were put, and the words of those have `used` bytes
   pub record RowsPut (out : List ℕ) (at count i : ℕ) (out′ : List ℕ) (end used : ℕ) : Type 0 where
     pub room : Room out at (rowsBytes 0 (rows count))
-    pub keys : Keys arena starts order count
+    pub keys : Keys shelf count
     pub behind : i ≤ count
     pub put : Appended out at (rowsBytes 0 (rows i)) end out′
     pub is : used ≡ length (said (rows i))
     pub small : used ≤ 255 * i
 
-  pub rows-none : (out : List ℕ) (at count : ℕ) → Room out at (rowsBytes 0 (rows count)) → Keys arena starts order count
+  pub rows-none : (out : List ℕ) (at count : ℕ) → Room out at (rowsBytes 0 (rows count)) → Keys shelf count
       → RowsPut out at count 0 out at 0
   rows-none out at count room keys =
       record {
@@ -152,11 +152,11 @@ module _ (arena starts order : List ℕ) where
   -- the words of the first `i` of `count` rows were put
   pub record WordsPut (out : List ℕ) (at count i : ℕ) (out′ : List ℕ) (end : ℕ) : Type 0 where
     pub room : Room out at (said (rows count))
-    pub keys : Keys arena starts order count
+    pub keys : Keys shelf count
     pub behind : i ≤ count
     pub put : Appended out at (said (rows i)) end out′
 
-  pub words-none : (out : List ℕ) (at count : ℕ) → Room out at (said (rows count)) → Keys arena starts order count
+  pub words-none : (out : List ℕ) (at count : ℕ) → Room out at (said (rows count)) → Keys shelf count
       → WordsPut out at count 0 out at
   words-none out at count room keys =
       record {

@@ -21,8 +21,8 @@ abbrev pub keyRow : Word → Row
 keyRow w = record { symbol = getD w 0 0; from = getD w 1 0; to = getD w 3 0; marker = getD w 2 0; word = drop 4 w }
 
 -- the rows whose keys stand on a shelf, in their order
-abbrev pub rowsIn : List ℕ → List ℕ → List ℕ → ℕ → List Row
-rowsIn arena starts order n = map keyRow (wordsOf arena starts order n)
+abbrev pub rowsIn : List ℕ → ℕ → List Row
+rowsIn rows n = map keyRow (wordsOf rows n)
 
 -- "it starts or is final when both are. Classes and depth cap are the first's, waiting cap the second's": the joined
 -- table, but for how many markers and which rows it has
@@ -40,9 +40,9 @@ paired A B markers rows =
     }
 
 -- its file, of the tables of two files and the rows of a shelf
-abbrev pub pairedFile : List ℕ → List ℕ → Sizes → List ℕ → List ℕ → List ℕ → List ℕ
-pairedFile one two sizes arena starts order =
-    fileOf (paired (tableOf one) (tableOf two) (sizes .markers) (rowsIn arena starts order (sizes .rows)))
+abbrev pub pairedFile : List ℕ → List ℕ → Sizes → List ℕ → List ℕ
+pairedFile one two sizes rows =
+    fileOf (paired (tableOf one) (tableOf two) (sizes .markers) (rowsIn rows (sizes .rows)))
 
 -- bytes 0 to 7, of a table with so many markers whose file has so many bytes
 abbrev pub headOf : Table → Table → ℕ → ℕ → List ℕ
@@ -83,14 +83,14 @@ pub record Key (w : Word) : Type 0 where
   pub short : length w ≤ 259
 
 -- a shelf with the keys of rows
-pub record Keys (arena starts order : List ℕ) (count : ℕ) : Type 0 where
-  pub standing : Standing arena starts order count
-  pub each : (i : ℕ) → i < count → Key (wordAt arena starts order i)
+pub record Keys (rows : List ℕ) (count : ℕ) : Type 0 where
+  pub standing : Standing rows count
+  pub each : (i : ℕ) → i < count → Key (wordAt rows i)
 
 -- all that the file is made of, and room for it; how many bytes the words have together is told
-pub record Laying (one two : List ℕ) (sizes : Sizes) (arena starts order out : List ℕ) : Type 0 where
+pub record Laying (one two : List ℕ) (sizes : Sizes) (rows out : List ℕ) : Type 0 where
   pub tables : Pair one two
   pub markers : sizes .markers ≤ 255
-  pub keys : Keys arena starts order (sizes .rows)
-  pub words : sizes .words ≡ length (said (rowsIn arena starts order (sizes .rows)))
+  pub keys : Keys rows (sizes .rows)
+  pub words : sizes .words ≡ length (said (rowsIn rows (sizes .rows)))
   pub room : rowsStart + rowSize * sizes .rows + sizes .words ≤ length out

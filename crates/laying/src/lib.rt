@@ -1,6 +1,6 @@
 // The file of the joined table, part after part. Each function puts its part from a place on, where there is room for
 // it, and answers the place after it.
-use shelf::ROOM;
+use shelf::SHELF;
 use table::CLASS_COUNT;
 use table::CLASSES_START;
 use table::FINAL_START;
@@ -96,25 +96,18 @@ fn put_row(out: &mut [u8], at: usize, key: &[u8], start: usize) -> usize
 }
 
 // All rows; each word starts where the one before ends.
-fn put_rows(
-    out: &mut [u8],
-    at: usize,
-    count: usize,
-    arena: &[u8; ROOM],
-    starts: &[usize; 257],
-    order: &[u8; 256],
-) -> usize
-    requires { ⌜ Room (now out) at (rowsBytes 0 (rowsIn (now arena) (now starts) (now order) count)) ⌝ }
-    requires { ⌜ Keys (now arena) (now starts) (now order) count ⌝ }
+fn put_rows(out: &mut [u8], at: usize, count: usize, rows: &[u8; SHELF]) -> usize
+    requires { ⌜ Room (now out) at (rowsBytes 0 (rowsIn (now rows) count)) ⌝ }
+    requires { ⌜ Keys (now rows) count ⌝ }
     ensures { λ r. ⌜ Appended (now (out .entry)) at
-        (rowsBytes 0 (rowsIn (now (arena .entry)) (now (starts .entry)) (now (order .entry)) count))
+        (rowsBytes 0 (rowsIn (now (rows .entry)) count))
         r (now (out .exit)) ⌝ }
 {
     let mut end = at;
     let mut start: usize = 0;
     let mut i: usize = 0;
     while i < count {
-        let key = shelf::word(arena, starts, order, i);
+        let key = shelf::word(rows, i);
         end = put_row(out, end, key, start);
         start += key.len() - 4;
         i += 1;
@@ -123,23 +116,16 @@ fn put_rows(
 }
 
 // All words, in the order of their rows.
-fn put_words(
-    out: &mut [u8],
-    at: usize,
-    count: usize,
-    arena: &[u8; ROOM],
-    starts: &[usize; 257],
-    order: &[u8; 256],
-) -> usize
-    requires { ⌜ Room (now out) at (said (rowsIn (now arena) (now starts) (now order) count)) ⌝ }
-    requires { ⌜ Keys (now arena) (now starts) (now order) count ⌝ }
+fn put_words(out: &mut [u8], at: usize, count: usize, rows: &[u8; SHELF]) -> usize
+    requires { ⌜ Room (now out) at (said (rowsIn (now rows) count)) ⌝ }
+    requires { ⌜ Keys (now rows) count ⌝ }
     ensures { λ r. ⌜ Appended (now (out .entry)) at
-        (said (rowsIn (now (arena .entry)) (now (starts .entry)) (now (order .entry)) count)) r (now (out .exit)) ⌝ }
+        (said (rowsIn (now (rows .entry)) count)) r (now (out .exit)) ⌝ }
 {
     let mut end = at;
     let mut i: usize = 0;
     while i < count {
-        let key = shelf::word(arena, starts, order, i);
+        let key = shelf::word(rows, i);
         end = put_bytes(out, end, &key[4..]);
         i += 1;
     }
@@ -189,20 +175,10 @@ fn put_head(first: &[u8], second: &[u8], out: &mut [u8], markers: usize, size: u
 }
 
 // The whole file.
-pub fn write(
-    first: &[u8],
-    second: &[u8],
-    out: &mut [u8],
-    sizes: Sizes,
-    arena: &[u8; ROOM],
-    starts: &[usize; 257],
-    order: &[u8; 256],
-) -> usize
-    requires { ⌜
-        Laying (now first) (now second) sizes (now arena) (now starts) (now order) (now out) ⌝ }
+pub fn write(first: &[u8], second: &[u8], out: &mut [u8], sizes: Sizes, rows: &[u8; SHELF]) -> usize
+    requires { ⌜ Laying (now first) (now second) sizes (now rows) (now out) ⌝ }
     ensures { λ r. ⌜ Appended (now (out .entry)) 0
-        (pairedFile (now (first .entry)) (now (second .entry)) sizes
-        (now (arena .entry)) (now (starts .entry)) (now (order .entry))) r (now (out .exit)) ⌝ }
+        (pairedFile (now (first .entry)) (now (second .entry)) sizes (now (rows .entry))) r (now (out .exit)) ⌝ }
 {
     let long = ROW_SIZE * sizes.rows;
     let contents = put_head(
@@ -214,7 +190,7 @@ pub fn write(
     );
     let classes = put_entries(out, contents, long, sizes.words);
     let starting = put_bytes(out, classes, &first[CLASSES_START..STARTING_START]);
-    let rows = put_sets(first, second, out, starting);
-    let words = put_rows(out, rows, sizes.rows, arena, starts, order);
-    put_words(out, words, sizes.rows, arena, starts, order)
+    let body = put_sets(first, second, out, starting);
+    let words = put_rows(out, body, sizes.rows, rows);
+    put_words(out, words, sizes.rows, rows)
 }

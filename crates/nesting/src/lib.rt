@@ -5,12 +5,10 @@ ghost use mathlib.Core.Path.{_≡_};
 ghost use Prim.Native.Nat.{_<_, _≤_};
 ghost use lib.ListN.{length};
 ghost use Rattle.words.specs.Lists.{Exact};
-ghost use Rattle.words.specs.Words.{Bytes};
 ghost use Rattle.meaning.specs.Table.{unused};
 ghost use Rattle.meaning.specs.Nesting.{after, andThen, level, isZero, Nests};
 ghost use Rattle.table.specs.File.{rowCount, rowAt, tableOf};
 ghost use Rattle.table.specs.Good.{first, Good};
-ghost use Rattle.table.specs.Calls.{meant};
 ghost use Rattle.nesting.specs.Nesting.{Hops, levelOf, Few, Opens, Known, AllKnown};
 ghost use Rattle.nesting.specs.Nesting.{PairNests, PairsNest, RowNests, RowsNest};
 
@@ -112,14 +110,6 @@ fn words_known(first: &[u8], second: &[u8]) -> bool
     true
 }
 
-// The class of a row's symbol.
-pub fn row_class(file: &[u8], i: usize) -> Class
-    requires { ⌜ (Good first (now file)) × (Bytes (now file)) × (i < rowCount (now file)) ⌝ }
-    ensures { λ r. ⌜ meant r ≡ tableOf (now (file .entry)) .class (rowAt (now (file .entry)) i .symbol) ⌝ }
-{
-    table::class_of(file, table::row_symbol(file, i) as u8)
-}
-
 // Whether row `j` is no partner of call row `i`, whose word ended at `from`, or closes what that word left open.
 fn pair_nests(first: &[u8], second: &[u8], i: usize, from: Level, j: usize) -> bool
     requires { ⌜ (Opens (now first) (now second) i from) × (j < rowCount (now first)) ⌝ }
@@ -129,7 +119,7 @@ fn pair_nests(first: &[u8], second: &[u8], i: usize, from: Level, j: usize) -> b
     if table::row_marker(first, i) != table::row_marker(first, j) {
         return true;
     }
-    match row_class(first, j) {
+    match table::row_class(first, j) {
         Class::Unused => true,
         Class::Call => true,
         Class::Return => closes(second, table::row_word(first, j), from),
@@ -161,7 +151,7 @@ fn row_nests(first: &[u8], second: &[u8], i: usize) -> bool
         (rowAt (now (first .entry)) i)) r ⌝ }
 {
     let word = table::row_word(first, i);
-    match row_class(first, i) {
+    match table::row_class(first, i) {
         Class::Unused => true,
         Class::Call => pairs_nest(first, second, i, after_word(second, word, 0)),
         Class::Return => true,

@@ -13,12 +13,12 @@ use Rattle.shelf.proofs.Lists.{add-grows, kept-more}
 
 -- the two kinds of shelf
 
-pub shelved-made : {words : List Word} {arena starts order : List ℕ} {count used : ℕ}
-    → Held words arena starts order count used → Shelved words (Made count used) arena starts order
-shelved-made {words} {arena} {starts} {order} {count} {used} s =
+pub shelved-made : {words : List Word} {room : List ℕ} {count used : ℕ}
+    → Held words room count used → Shelved words (Made count used) room
+shelved-made {words} {room} {count} {used} s =
     record { made = is; full = λ e. absurd (let z : _≡_ {A = ℕ} 0 1 = cc in omega arith) }
   where
-    is : (n m : ℕ) → Made count used ≡ Made n m → Held words arena starts order n m
+    is : (n m : ℕ) → Made count used ≡ Made n m → Held words room n m
     is n m e =
         let a : count ≡ n = cc in
         let b : used ≡ m = cc in
@@ -27,13 +27,13 @@ shelved-made {words} {arena} {starts} {order} {count} {used} s =
 abbrev pub Outgrown : List Word → Type 0
 Outgrown words = (shelfCap < length (kept words)) ⊎ (shelfRoom < total (kept words))
 
-pub shelved-full : {words : List Word} {arena starts order : List ℕ} → Outgrown words
-    → Shelved words Full arena starts order
+pub shelved-full : {words : List Word} {room : List ℕ} → Outgrown words
+    → Shelved words Full room
 shelved-full o =
     record { made = λ n m e. absurd (let z : _≡_ {A = ℕ} 0 1 = cc in omega arith); full = λ e. o }
 
-pub shelved-none : (arena starts order : List ℕ) → Shelved [] (Made 0 0) arena starts order
-shelved-none arena starts order =
+pub shelved-none : (room : List ℕ) → Shelved [] (Made 0 0) room
+shelved-none room =
     shelved-made
     (record {
       standing = record {
@@ -45,7 +45,7 @@ shelved-none arena starts order =
       };
       are = refl;
       filled = refl;
-      room = omega arith;
+      fits = omega arith;
       behind = λ k l. absurd (omega arith);
       last = λ l. absurd (omega arith);
     })
@@ -68,25 +68,25 @@ outgrown-more made more (inr h) = inr (omega (arith, kept-grows made more .1))
 
 -- words put after whatever was before
 
-module _ {arena starts order : List ℕ} {s : Shelf} where
-  pub gathers-none : Gathers [] arena starts order s s arena starts order
+module _ {room : List ℕ} {s : Shelf} where
+  pub gathers-none : Gathers [] room s s room
   gathers-none made h = rw (append-nil made) h
 
-  -- a full shelf stays full, whatever the rooms hold
-  pub gathers-full : (more : List Word) {arena′ starts′ order′ : List ℕ} → s ≡ Full
-      → Gathers more arena starts order s Full arena′ starts′ order′
+  -- a full shelf stays full, whatever the room holds
+  pub gathers-full : (more : List Word) {room′ : List ℕ} → s ≡ Full
+      → Gathers more room s Full room′
   gathers-full more e made h = shelved-full (outgrown-more made more (h .full e))
 
-  pub gathers-still : (more : List Word) → s ≡ Full → Gathers more arena starts order s s arena starts order
+  pub gathers-still : (more : List Word) → s ≡ Full → Gathers more room s s room
   gathers-still more e made h =
-      subst (λ (r : Shelf). Shelved (made ++ more) r arena starts order) (sym e) (gathers-full more e made h)
+      subst (λ (r : Shelf). Shelved (made ++ more) r room) (sym e) (gathers-full more e made h)
 
-  module _ {A arena′ starts′ order′ : List _} {s′ : Shelf}
-      (a : Gathers A arena starts order s s′ arena′ starts′ order′) where
-    pub gathers-as : {B : List Word} → A ≡ B → Gathers B arena starts order s s′ arena′ starts′ order′
+  module _ {A room′ : List _} {s′ : Shelf}
+      (a : Gathers A room s s′ room′) where
+    pub gathers-as : {B : List Word} → A ≡ B → Gathers B room s s′ room′
     gathers-as e = rw (← e) a
 
-    pub gathers-both : {B arena″ starts″ order″ : List _} {s″ : Shelf}
-        → Gathers B arena′ starts′ order′ s′ s″ arena″ starts″ order″
-        → Gathers (A ++ B) arena starts order s s″ arena″ starts″ order″
+    pub gathers-both : {B room″ : List _} {s″ : Shelf}
+        → Gathers B room′ s′ s″ room″
+        → Gathers (A ++ B) room s s″ room″
     gathers-both {B} b made h = rw (← append-assoc made A B) (b (made ++ A) (a made h))

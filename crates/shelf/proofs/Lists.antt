@@ -130,8 +130,8 @@ module _ (made : List Word) where
 
 -- words listed by place
 
-pub words-count : (arena starts order : List ℕ) (n : ℕ) → length (wordsOf arena starts order n) ≡ n
-words-count arena starts order n = length-map (upTo n) (wordAt arena starts order) ∙ length-upTo n
+pub words-count : (room : List ℕ) (n : ℕ) → length (wordsOf room n) ≡ n
+words-count room n = length-map (upTo n) (wordAt room) ∙ length-upTo n
 
 map-front : {A : Type 0} (f : ℕ → A) (n : ℕ) → map f (upTo (suc n)) ≡ f 0 ∷ map (λ i. f (suc i)) (upTo n)
 map-front f zero = refl

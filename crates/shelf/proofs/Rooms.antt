@@ -3,23 +3,24 @@
 use mathlib.Core.Path.{_≡_, refl, sym, _∙_, ap, ap₂, subst}
 use mathlib.Core.Logic.{_⊎_, inl, inr}
 use mathlib.Core.List.{List, [], _∷_, _++_, append-assoc, Memᴰ·cast, Memᴰ·map, Memᴰ·of-map}
-use Prim.Native.Nat.{ℕ, zero, suc, _+_, _-_, _<_, _≤_}
+use Prim.Native.Nat.{ℕ, zero, suc, _+_, _-_, _*_, _<_, _≤_}
 use native.Mathlib.Nat.{eq-or-lt-of-le, sub-zero}
 use native.Mathlib.Numerals.{add-one}
 use native.Mathlib.Omega.{arith}
 use borrow.Author.Count.{below-more}
-use lib.ListN.{length, take, drop, set, length-set, length-append}
+use lib.ListN.{length, getD, take, drop, length-append}
 use lib.Seq.{slice, take-take, take-append-le, drop-at, length-take-le, take-length, take-nil}
-use lib.Seq.{paste, take-paste, length-paste, getD-set-same, getD-set-other}
+use lib.Seq.{paste, take-paste}
 use Rattle.words.specs.Lists.{_among_, upTo}
 use Rattle.words.specs.Words.{Word}
 use Rattle.words.specs.Calls.{Inserted}
 use Rattle.words.specs.Order.{Less, Side, lower, same, upper, side, Rises}
 use Rattle.words.proofs.Lists.{upTo-in, upTo-out, below-or}
 use Rattle.words.proofs.Order.{less-self, side-lower, side-same, side-upper}
-use Rattle.words.proofs.Shifted.{Came, stayed, fresh, moved, came}
-use Rattle.shelf.specs.Shelved.{shelfCap, shelfRoom, startOf, slotOf, wordIn, wordAt, wordsOf, kept, total}
-use Rattle.shelf.specs.Shelved.{Held, Place, Stored}
+use Rattle.words.proofs.Shifted.{inserted-take}
+use Rattle.words.proofs.Pasted.{Pasted, pasted}
+use Rattle.shelf.specs.Shelved.{shelfCap, shelfRoom, orderAt, startOf, slotOf, wordIn, wordAt, wordsOf}
+use Rattle.shelf.specs.Shelved.{kept, total, Held, Place, Stored, SameOrder}
 use Rattle.shelf.proofs.Lists.{add, add-there, add-new, add-between, kept-more, kept-rises, words-count}
 use Rattle.shelf.proofs.Turns.{words-rise}
 
@@ -34,109 +35,140 @@ part-slice (suc from) (suc to) (x ∷ l) =
     let e : suc to - suc from ≡ to - from = omega arith in
     ap (λ (n : ℕ). take n (drop from l)) e ∙ part-slice from to l
 
--- two parts laid one after the other behind what is in use
-module _ (arena : Word) (used : ℕ) (head tail : Word) (room : used + length head + length tail ≤ length arena) where
-  abbrev first : Word
-  first = paste arena used head (length head)
+-- two parts laid one after the other behind what is in use, and then where they start and end, in two bytes each
+module _ (room first second third : Word) (count used : ℕ) (head tail : Word) (a b c d : ℕ) where
+  abbrev end : ℕ
+  end = used + length head + length tail
 
-  abbrev second : Word
-  second = paste first (used + length head) tail (length tail)
+  abbrev slot : ℕ
+  slot = shelfRoom + 2 * count
 
-  long : length first ≡ length arena
-  long = length-paste arena used head (length head) (omega arith) (omega arith)
+  module _ (p : first ≡ paste room used head (length head))
+      (q : second ≡ paste first (used + length head) tail (length tail))
+      (r : third ≡ paste second slot (a ∷ b ∷ c ∷ d ∷ []) 4)
+      (whole : length room ≡ 5890) (few : count < shelfCap) (fits : end ≤ shelfRoom) where
+    one : Pasted room used head first
+    one = pasted (omega arith) p
 
-  laid-whole : length second ≡ length arena
-  laid-whole =
-      length-paste first (used + length head) tail (length tail) (omega (arith, long)) (omega arith) ∙ long
+    two : Pasted first (used + length head) tail second
+    two = pasted (omega (arith, one .whole)) q
 
-  laid-bytes : take (used + length head + length tail) second ≡ take used arena ++ (head ++ tail)
-  laid-bytes =
-      take-paste first (used + length head) tail (length tail) (omega (arith, long)) (omega arith)
-      ∙ ap₂ (λ (x y : Word). x ++ y) (take-paste arena used head (length head) (omega arith) (omega arith))
-      (take-length tail)
-      ∙ ap (λ (x : Word). take used arena ++ x ++ tail) (take-length head)
-      ∙ append-assoc (take used arena) head tail
+    three : Pasted second slot (a ∷ b ∷ c ∷ d ∷ []) third
+    three = pasted (omega (arith, one .whole, two .whole)) r
 
-pub stored : {arena first second : Word} (starts : List ℕ) (count used : ℕ) (head tail : Word)
-    → first ≡ paste arena used head (length head) → second ≡ paste first (used + length head) tail (length tail)
-    → used + length head + length tail ≤ length arena → count + 1 < length starts
-    → Stored arena starts count used (head ++ tail) (used + length head + length tail) second
-    (set (set starts count used) (count + 1) (used + length head + length tail))
-stored {arena} starts count used head tail a b room lt =
-    rw (b, a)
-    (record {
-      long = omega (arith, length-append head tail);
-      whole = laid-whole arena used head tail room;
-      room = omega (arith, laid-whole arena used head tail room);
-      bytes = laid-bytes arena used head tail room;
-      before = λ k l.
-          getD-set-other once (count + 1) k end 0 (λ e. omega arith)
-          ∙ getD-set-other starts count k used 0 (λ e. omega arith);
-      from =
-          getD-set-other once (count + 1) count end 0 (λ e. omega arith)
-          ∙ getD-set-same starts count used 0 (omega arith);
-      to = getD-set-same once (count + 1) end 0 (omega (arith, length-set starts count used));
-    })
-  where
-    once : List ℕ
-    once = set starts count used
+    others : (i : ℕ) → shelfRoom ≤ i → (i < slot) ⊎ (slot + 4 ≤ i) → getD third i 0 ≡ getD room i 0
+    others i l o = three .others i o ∙ two .others i (inr (omega arith)) ∙ one .others i (inr (omega arith))
 
-    end : ℕ
-    end = used + length head + length tail
+    laid-bytes : take end third ≡ take used room ++ (head ++ tail)
+    laid-bytes =
+        rw r
+        (ap (take end) (append-assoc (take slot second) (a ∷ b ∷ c ∷ d ∷ []) _)
+        ∙ take-append-le end (take slot second) _
+        (omega (arith, length-take-le slot second (omega (arith, one .whole, two .whole))))
+        ∙ take-take end slot second (omega arith)
+        ∙ ap (take end) q
+        ∙ take-paste first (used + length head) tail (length tail) (omega (arith, one .whole)) (omega arith)
+        ∙ ap₂ (λ (x y : Word). take (used + length head) x ++ y) p (take-length tail)
+        ∙ ap (λ (x : Word). x ++ tail) (take-paste room used head (length head) (omega arith) (omega arith))
+        ∙ ap (λ (x : Word). take used room ++ x ++ tail) (take-length head)
+        ∙ append-assoc (take used room) head tail)
 
-module _ {arena starts arena′ starts′ : List ℕ} {count used end : ℕ} {w : Word}
-    (s : Stored arena starts count used w end arena′ starts′) where
-  below-used : used ≤ length arena
-  below-used = omega (arith, s .room, s .long, s .whole)
+    pub stored : a + 256 * b ≡ used → c + 256 * d ≡ end
+        → Stored room count used (head ++ tail) end third × SameOrder room third
+    stored from to =
+        let here : (j i : ℕ) → j < 4 → slot + j ≡ i → getD third i 0 ≡ getD (a ∷ b ∷ c ∷ d ∷ []) j 0 =
+        λ j i l e. ap (λ (k : ℕ). getD third k 0) (sym e) ∙ three .here j l in
+        let w = here 0 slot (omega arith) (omega arith) in
+        let x = here 1 (slot + 1) (omega arith) (omega arith) in
+        let y = here 2 (shelfRoom + 2 * (count + 1)) (omega arith) (omega arith) in
+        let z = here 3 (shelfRoom + 2 * (count + 1) + 1) (omega arith) (omega arith) in (
+          record {
+            long = omega (arith, length-append head tail);
+            within = omega arith;
+            bytes = laid-bytes;
+            before = λ k l.
+                let e = others (shelfRoom + 2 * k) (omega arith) (inl (omega arith)) in
+                let f = others (shelfRoom + 2 * k + 1) (omega arith) (inl (omega arith)) in
+                omega arith;
+            from = omega arith;
+            to = omega arith;
+          },
+          λ i. others (orderAt + i) (omega arith) (inr (omega arith)),
+        )
 
-  bytes-stay : (to : ℕ) → to ≤ used → take to arena′ ≡ take to arena
+-- where the others stand, and the new one
+module _ {room room′ : List ℕ} {count used end : ℕ} {w : Word} (s : Stored room count used w end room′) where
+  below-used : used ≤ length room
+  below-used = omega (arith, s .long, s .within)
+
+  bytes-stay : (to : ℕ) → to ≤ used → take to room′ ≡ take to room
   bytes-stay to le =
-      sym (take-take to end arena′ (omega (arith, s .long)))
+      sym (take-take to end room′ (omega (arith, s .long)))
       ∙ ap (take to) (s .bytes)
-      ∙ take-append-le to (take used arena) w (omega (arith, length-take-le used arena below-used))
-      ∙ take-take to used arena le
+      ∙ take-append-le to (take used room) w (omega (arith, length-take-le used room below-used))
+      ∙ take-take to used room le
 
-  new-word : wordIn arena′ starts′ count ≡ w
+  new-word : wordIn room′ count ≡ w
   new-word =
-      ap (λ (k : ℕ). slice k (startOf starts′ (count + 1)) arena′) (s .from)
-      ∙ ap (λ (k : ℕ). slice used k arena′) (s .to)
+      ap (λ (k : ℕ). slice k (startOf room′ (count + 1)) room′) (s .from)
+      ∙ ap (λ (k : ℕ). slice used k room′) (s .to)
       ∙ ap (drop used) (s .bytes)
-      ∙ drop-at (take used arena) w used (length-take-le used arena below-used)
+      ∙ drop-at (take used room) w used (length-take-le used room below-used)
 
-  module _ (last : 0 < count → startOf starts count ≡ used) where
-    end-stays : (k : ℕ) → k < count → startOf starts′ (k + 1) ≡ startOf starts (k + 1)
+  module _ (last : 0 < count → startOf room count ≡ used) where
+    end-stays : (k : ℕ) → k < count → startOf room′ (k + 1) ≡ startOf room (k + 1)
     end-stays k l = go (eq-or-lt-of-le (omega arith))
       where
-        go : (k + 1 ≡ count) ⊎ (k + 1 < count) → startOf starts′ (k + 1) ≡ startOf starts (k + 1)
+        go : (k + 1 ≡ count) ⊎ (k + 1 < count) → startOf room′ (k + 1) ≡ startOf room (k + 1)
         go (inl e) = rw e (s .from ∙ sym (last (omega arith)))
         go (inr h) = s .before (k + 1) h
 
-    word-stays : (k : ℕ) → k < count → startOf starts (k + 1) ≤ used → wordIn arena′ starts′ k ≡ wordIn arena starts k
+    word-stays : (k : ℕ) → k < count → startOf room (k + 1) ≤ used → wordIn room′ k ≡ wordIn room k
     word-stays k l le =
-        ap (λ (i : ℕ). slice i (startOf starts′ (k + 1)) arena′) (s .before k l)
-        ∙ ap (λ (i : ℕ). slice (startOf starts k) i arena′) (end-stays k l)
-        ∙ ap (drop (startOf starts k)) (bytes-stay (startOf starts (k + 1)) le)
+        ap (λ (i : ℕ). slice i (startOf room′ (k + 1)) room′) (s .before k l)
+        ∙ ap (λ (i : ℕ). slice (startOf room k) i room′) (end-stays k l)
+        ∙ ap (drop (startOf room k)) (bytes-stay (startOf room (k + 1)) le)
+
+  -- a slot inserted behind all that changes nothing of it
+  module _ {room″ : List ℕ} (at : ℕ) (into : Inserted room′ (orderAt + count) (orderAt + at) count room″)
+      (few : count < shelfCap) (fits : end ≤ shelfRoom) where
+    start-stays : (k : ℕ) → k ≤ shelfCap → startOf room″ k ≡ startOf room′ k
+    start-stays k l =
+        let e = into .before (shelfRoom + 2 * k) (omega arith) in
+        let f = into .before (shelfRoom + 2 * k + 1) (omega arith) in
+        omega arith
+
+    stored-into : Stored room count used w end room″
+    stored-into =
+        record {
+          long = s .long;
+          within = s .within;
+          bytes = inserted-take into end (omega arith) ∙ s .bytes;
+          before = λ k l. start-stays k (omega arith) ∙ s .before k l;
+          from = start-stays count (omega arith) ∙ s .from;
+          to = start-stays (count + 1) (omega arith) ∙ s .to;
+        }
 
 -- how many words stand
-pub held-count : {made : List Word} {arena starts order : List ℕ} {count used : ℕ}
-    → Held made arena starts order count used → count ≡ length (kept made)
-held-count {arena = arena} {starts} {order} {count} h = sym (words-count arena starts order count) ∙ ap length (h .are)
+pub held-count : {made : List Word} {room : List ℕ} {count used : ℕ}
+    → Held made room count used → count ≡ length (kept made)
+held-count {room = room} {count} h = sym (words-count room count) ∙ ap length (h .are)
 
-module _ {made : List Word} {arena starts order : List ℕ} {count used : ℕ}
-    (held : Held made arena starts order count used) {w : Word} {at : ℕ}
-    (place : Place arena starts order count w at) where
+module _ {made : List Word} {room : List ℕ} {count used : ℕ}
+    (held : Held made room count used) {w : Word} {at : ℕ}
+    (place : Place room count w at) where
   abbrev word : ℕ → Word
-  word i = wordAt arena starts order i
+  word i = wordAt room i
 
   -- the word is there
   module _ (there : at < count) (hit : w ≡ word at) where
-    pub held-same : Held (made ++ w ∷ []) arena starts order count used
+    pub held-same : Held (made ++ w ∷ []) room count used
     held-same =
         record {
           standing = held .standing;
           are = held .are ∙ sym as-was;
           filled = held .filled ∙ ap total (sym as-was);
-          room = held .room;
+          fits = held .fits;
           behind = held .behind;
           last = held .last;
         }
@@ -183,53 +215,72 @@ module _ {made : List Word} {arena starts order : List ℕ} {count used : ℕ}
         let n = held .filled in
         ap total (kept-more w made) ∙ add-new w (kept made) not-there .1 ∙ omega arith
 
-    module _ {arena′ starts′ order′ : List ℕ} {end : ℕ} (s : Stored arena starts count used w end arena′ starts′)
-        (into : Inserted order count at count order′) where
-      stays : (i : ℕ) → i < count → wordIn arena′ starts′ (slotOf order i) ≡ word i
+    module _ {room′ room″ : List ℕ} {end : ℕ} (stored : Stored room count used w end room′)
+        (same : SameOrder room room′)
+        (into : Inserted room′ (orderAt + count) (orderAt + at) count room″) (few : count < shelfCap)
+        (fits : end ≤ shelfRoom) where
+      s : Stored room count used w end room″
+      s = stored-into stored at into few fits
+
+      stays : (i : ℕ) → i < count → wordIn room″ (slotOf room i) ≡ word i
       stays i l =
           let k = held .standing .slots i l in
-          word-stays s (held .last) (slotOf order i) k (held .behind (slotOf order i) k)
+          word-stays s (held .last) (slotOf room i) k (held .behind (slotOf room i) k)
 
-      listed : wordsOf arena′ starts′ order′ (count + 1) ≡ kept (made ++ w ∷ [])
+      -- which slot is read: those before the new one, the new one, and those behind it
+      slot-before : (i : ℕ) → i < at → slotOf room″ i ≡ slotOf room i
+      slot-before i h = into .before (orderAt + i) (omega arith) ∙ same i
+
+      slot-after : (i : ℕ) → at ≤ i → i < count → slotOf room″ (suc i) ≡ slotOf room i
+      slot-after i h l =
+          let e : orderAt + suc i ≡ orderAt + i + 1 = omega arith in
+          ap (λ (k : ℕ). getD room″ k 0) e ∙ into .after (orderAt + i) (omega arith) (omega arith) ∙ same i
+
+      listed : wordsOf room″ (count + 1) ≡ kept (made ++ w ∷ [])
       listed =
           rw add-one
           (sym
-          (add-between w word (wordAt arena′ starts′ order′) count at (place .within) (place .before) before-next
-          (λ i h. ap (wordIn arena′ starts′) (into .before i h) ∙ stays i (omega (arith, place .within)))
-          (ap (wordIn arena′ starts′) (into .here) ∙ new-word s)
-          (λ i h k.
-          ap (wordAt arena′ starts′ order′) (sym (add-one i)) ∙ ap (wordIn arena′ starts′) (into .after i h k)
-          ∙ stays i k))
+          (add-between w word (wordAt room″) count at (place .within) (place .before) before-next
+          (λ i h. ap (wordIn room″) (slot-before i h) ∙ stays i (omega (arith, place .within)))
+          (ap (wordIn room″) (into .here) ∙ new-word s)
+          (λ i h k. ap (wordIn room″) (slot-after i h k) ∙ stays i k))
           ∙ ap (add w) (held .are)
           ∙ sym (kept-more w made))
 
-      within : (j : ℕ) → Came order count at count order′ j → slotOf order′ j < count + 1
-      within j (stayed h e) = omega (arith, held .standing .slots j (omega (arith, place .within)))
-      within j (fresh h e) = omega arith
-      within j (moved k h g l e) = omega (arith, held .standing .slots k l)
+      within : (j : ℕ) → j < count + 1 → slotOf room″ j < count + 1
+      within j l = go j l (below-or j at) (below-or at j)
+        where
+          go : (j : ℕ) → j < count + 1 → (j < at) ⊎ (at ≤ j) → (at < j) ⊎ (j ≤ at) → slotOf room″ j < count + 1
+          go j l (inl h) o =
+              omega (arith, slot-before j h, held .standing .slots j (omega (arith, place .within)))
+          go zero l (inr h) (inl k) = absurd (omega arith)
+          go (suc j) l (inr h) (inl k) =
+              omega (arith, slot-after j (omega arith) (omega arith), held .standing .slots j (omega arith))
+          go j l (inr h) (inr k) =
+              let e : j ≡ at = omega arith in
+              rw e (omega (arith, into .here))
 
-      pub held-new : count < shelfCap → end ≤ shelfRoom → Held (made ++ w ∷ []) arena′ starts′ order′ (count + 1) end
-      held-new few room =
+      pub held-new : Held (made ++ w ∷ []) room″ (count + 1) end
+      held-new =
           record {
             standing = record {
               few = omega arith;
-              slots = λ j h. within j (came into j h);
+              slots = within;
               edges =
-                  below-more (λ k. startOf starts′ k ≤ startOf starts′ (k + 1)) count
+                  below-more (λ k. startOf room″ k ≤ startOf room″ (k + 1)) count
                   (λ k l. omega (arith, s .before k l, end-stays s (held .last) k l, held .standing .edges k l))
                   (omega (arith, s .from, s .to, s .long));
               ends =
-                  below-more (λ k. startOf starts′ (k + 1) ≤ length arena′) count
-                  (λ k l.
-                  omega (arith, end-stays s (held .last) k l, held .behind k l, s .room, s .long))
-                  (omega (arith, s .to, s .room));
+                  below-more (λ k. startOf room″ (k + 1) ≤ shelfRoom) count
+                  (λ k l. omega (arith, end-stays s (held .last) k l, held .standing .ends k l))
+                  (omega (arith, s .to));
               rise = subst (Rises (λ (v : Word). v)) (sym listed) (kept-rises (made ++ w ∷ []));
             };
             are = listed;
             filled = sym (more-bytes ∙ sym (s .long));
-            room = room;
+            fits = fits;
             behind =
-                below-more (λ k. startOf starts′ (k + 1) ≤ end) count
+                below-more (λ k. startOf room″ (k + 1) ≤ end) count
                 (λ k l. omega (arith, end-stays s (held .last) k l, held .behind k l, s .long))
                 (omega (arith, s .to));
             last = λ h. s .to;

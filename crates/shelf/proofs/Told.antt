@@ -1,5 +1,5 @@
--- What the functions of a shelf promise allows one answer: the shelf with its words, and a word's place. What the rooms
--- hold beside the words is not promised. Assumes nothing.
+-- What the functions of a shelf promise allows one answer: the shelf with its words, and a word's place. What the room
+-- holds beside the words is not promised. Assumes nothing.
 use mathlib.Core.Path.{_≡_, refl, sym, _∙_, ap₂}
 use mathlib.Core.Logic.{_⊎_, inl, inr}
 use mathlib.Core.List.{List, []}
@@ -14,20 +14,20 @@ use Rattle.shelf.proofs.Rooms.{held-count}
 use Rattle.shelf.proofs.Laws.{Outgrown}
 
 -- words that stand have room
-not-outgrown : {made : List Word} {arena starts order : List ℕ} {count used : ℕ}
-    → Held made arena starts order count used → Outgrown made → ⊥
+not-outgrown : {made : List Word} {room : List ℕ} {count used : ℕ}
+    → Held made room count used → Outgrown made → ⊥
 not-outgrown h (inl l) = omega (arith, held-count h, h .standing .few)
-not-outgrown h (inr l) = omega (arith, h .filled, h .room)
+not-outgrown h (inr l) = omega (arith, h .filled, h .fits)
 
--- the same shelf in other rooms
-pub record Alike (r q : Shelf) (arena starts order arena′ starts′ order′ : List ℕ) : Type 0 where
+-- the same shelf in another room
+pub record Alike (r q : Shelf) (room room′ : List ℕ) : Type 0 where
   pub same : r ≡ q
   pub stand : (count used : ℕ) → r ≡ Made count used
-      → wordsOf arena starts order count ≡ wordsOf arena′ starts′ order′ count
+      → wordsOf room count ≡ wordsOf room′ count
 
-module _ {words : List Word} {arena starts order arena′ starts′ order′ : List ℕ} where
-  pub shelved-unique : (r q : Shelf) → Shelved words r arena starts order → Shelved words q arena′ starts′ order′
-      → Alike r q arena starts order arena′ starts′ order′
+module _ {words : List Word} {room room′ : List ℕ} where
+  pub shelved-unique : (r q : Shelf) → Shelved words r room → Shelved words q room′
+      → Alike r q room room′
   shelved-unique r q a b =
       let e = one r q a b in
       record {
@@ -35,7 +35,7 @@ module _ {words : List Word} {arena starts order arena′ starts′ order′ : L
         stand = λ count used is. a .made count used is .are ∙ sym (b .made count used (sym e ∙ is) .are);
       }
     where
-      one : (r q : Shelf) → Shelved words r arena starts order → Shelved words q arena′ starts′ order′ → r ≡ q
+      one : (r q : Shelf) → Shelved words r room → Shelved words q room′ → r ≡ q
       one Full Full a b = refl
       one Full (Made n m) a b = absurd (not-outgrown (b .made n m refl) (a .full refl))
       one (Made n m) Full a b = absurd (not-outgrown (a .made n m refl) (b .full refl))
@@ -46,19 +46,19 @@ module _ {words : List Word} {arena starts order arena′ starts′ order′ : L
 
 -- `start`
 pub start-unique : {r q : Shelf} → Bare r → Bare q → r ≡ q
-start-unique a b = shelved-unique _ _ (a [] [] []) (b [] [] []) .same
+start-unique a b = shelved-unique _ _ (a []) (b []) .same
 
 -- `put`, and whatever puts words
-pub gathers-unique : {more : List Word} {arena starts order : List ℕ} {s : Shelf} → Ready arena starts order s
-    → {arena′ starts′ order′ arena″ starts″ order″ : List ℕ} {r q : Shelf}
-    → Gathers more arena starts order s r arena′ starts′ order′
-    → Gathers more arena starts order s q arena″ starts″ order″
-    → Alike r q arena′ starts′ order′ arena″ starts″ order″
+pub gathers-unique : {more : List Word} {room : List ℕ} {s : Shelf} → Ready room s
+    → {room′ room″ : List ℕ} {r q : Shelf}
+    → Gathers more room s r room′
+    → Gathers more room s q room″
+    → Alike r q room′ room″
 gathers-unique m a b = shelved-unique _ _ (a (m .0) (m .1)) (b (m .0) (m .1))
 
 -- `place`
-pub place-unique : {arena starts order : List ℕ} {count : ℕ} {w : Word} {p q : ℕ} → Place arena starts order count w p
-    → Place arena starts order count w q → p ≡ q
+pub place-unique : {room : List ℕ} {count : ℕ} {w : Word} {p q : ℕ} → Place room count w p
+    → Place room count w q → p ≡ q
 place-unique {p = p} {q} a b = go (below-or p q) (below-or q p)
   where
     go : (p < q) ⊎ (q ≤ p) → (q < p) ⊎ (p ≤ q) → p ≡ q

@@ -14,14 +14,14 @@ use Rattle.shelf.specs.Shelved.{wordAt, wordsOf, Standing, Place}
 use Rattle.shelf.proofs.Lists.{rank-at}
 
 -- the place is between two others
-pub record Narrowed (arena starts order : List ℕ) (count : ℕ) (w : Word) (low high : ℕ) : Type 0 where
+pub record Narrowed (room : List ℕ) (count : ℕ) (w : Word) (low high : ℕ) : Type 0 where
   pub ordered : low ≤ high
   pub within : high ≤ count
-  pub before : (i : ℕ) → i < low → Less (wordAt arena starts order i) w
-  pub onward : (i : ℕ) → high ≤ i → i < count → Less (wordAt arena starts order i) w → ⊥
+  pub before : (i : ℕ) → i < low → Less (wordAt room i) w
+  pub onward : (i : ℕ) → high ≤ i → i < count → Less (wordAt room i) w → ⊥
 
-module _ {arena starts order : List ℕ} {count : ℕ} where
-  pub narrowed-start : {w : Word} → Narrowed arena starts order count w 0 count
+module _ {room : List ℕ} {count : ℕ} where
+  pub narrowed-start : {w : Word} → Narrowed room count w 0 count
   narrowed-start =
       record {
         ordered = omega arith;
@@ -30,16 +30,16 @@ module _ {arena starts order : List ℕ} {count : ℕ} where
         onward = λ i h k. absurd (omega arith);
       }
 
-  module _ (s : Standing arena starts order count) where
+  module _ (s : Standing room count) where
     abbrev at : ℕ → Word
-    at i = wordAt arena starts order i
+    at i = wordAt room i
 
     pub words-rise : (i j : ℕ) → i < j → j < count → Less (at i) (at j)
     words-rise = rises-out (λ (v : Word). v) at count (s .rise)
 
     -- the word is at a place
     pub narrowed-same : {w : Word} (m : ℕ) → m < count → side w (at m) ≡ same
-        → Narrowed arena starts order count w m m
+        → Narrowed room count w m m
     narrowed-same {w} m h e =
         record {
           ordered = omega arith;
@@ -55,8 +55,8 @@ module _ {arena starts order : List ℕ} {count : ℕ} where
         go i k less (inl d) = less-self (at m) (rw (← d) at less)
         go i k less (inr l) = less-self (at m) (less-trans (at m) (at i) (at m) (words-rise m i l k) less)
 
-    module _ {w : Word} {low high : ℕ} (n : Narrowed arena starts order count w low high) where
-      pub narrowed-after : (m : ℕ) → m < high → side w (at m) ≡ upper → Narrowed arena starts order count w (m + 1) high
+    module _ {w : Word} {low high : ℕ} (n : Narrowed room count w low high) where
+      pub narrowed-after : (m : ℕ) → m < high → side w (at m) ≡ upper → Narrowed room count w (m + 1) high
       narrowed-after m h e =
           record {
             ordered = omega arith;
@@ -72,7 +72,7 @@ module _ {arena starts order : List ℕ} {count : ℕ} where
               less-trans (at i) (at m) w (words-rise i m l (omega arith)) (side-upper w (at m) e)
 
       pub narrowed-before : (m : ℕ) → low ≤ m → m < high → side w (at m) ≡ lower
-          → Narrowed arena starts order count w low m
+          → Narrowed room count w low m
       narrowed-before m g h e =
           let u = n .within in
           record {
@@ -89,7 +89,7 @@ module _ {arena starts order : List ℕ} {count : ℕ} where
           go i l less (inl d) = apart (rw d less)
           go i l less (inr k) = apart (less-trans (at m) (at i) w (words-rise m i k l) less)
 
-      pub narrowed-place : high ≤ low → Place arena starts order count w low
+      pub narrowed-place : high ≤ low → Place room count w low
       narrowed-place le =
           record {
             within = omega (arith, n .ordered, n .within);
@@ -104,7 +104,7 @@ module _ {arena starts order : List ℕ} {count : ℕ} where
               absurd (n .onward low le (omega arith) (rw e at (words-rise low i k l)))
           here i l e (inr h) (inr k) = omega arith
 
-          is : (i : ℕ) → i < count → at i ≡ w → low ≡ rank (λ (v : Word). v) (wordsOf arena starts order count) w
+          is : (i : ℕ) → i < count → at i ≡ w → low ≡ rank (λ (v : Word). v) (wordsOf room count) w
           is i l e =
               let d = here i l e (below-or i low) (below-or low i) in
               sym

@@ -1,4 +1,4 @@
-// A shelf: words, each once and in rising byte order, in rooms that the caller lends. A word comes in two parts, so
+// A shelf: words, each once and in rising byte order, in a room that the caller lends. A word comes in two parts, so
 // that nobody has to join them first.
 use words::Order;
 use words::compare;
@@ -7,16 +7,24 @@ use words::insert;
 use words::wide;
 ghost use mathlib.Core.Path.{_≡_};
 ghost use mathlib.Core.List.{_∷_, [], _++_};
-ghost use Prim.Native.Nat.{_+_, _≤_, _<_};
+ghost use Prim.Native.Nat.{_+_, _*_, _≤_, _<_};
 ghost use lib.ListN.{length};
 ghost use Rattle.words.specs.Lists.{Exact};
 ghost use Rattle.words.specs.Order.{side};
 ghost use Rattle.words.specs.Calls.{sideOf};
-ghost use Rattle.shelf.specs.Shelved.{wordAt, Stands, Standing, Bare, Ready, Gathers, Place, Stored};
+ghost use Rattle.shelf.specs.Shelved.{startOf, wordAt, Stands, Standing, Bare, Ready, Gathers, Place, Stored};
+ghost use Rattle.shelf.specs.Shelved.{SameOrder};
 ghost use Rattle.shelf.specs.declared.Shelf.the-variants.{Full, Made};
 
-// How many bytes all words may have together.
-pub const ROOM: usize = 5120;
+// The room: the bytes of all words, as they came; from `STARTS` on where the word of each slot starts, in two bytes;
+// from `ORDER` on which slot is read first, second, and so on.
+pub const SHELF: usize = 5890;
+
+const ROOM: usize = 5120;
+
+const STARTS: usize = 5120;
+
+const ORDER: usize = 5634;
 
 // What stands on a shelf: so many words with so many bytes; or there was no room for one.
 pub enum Shelf {
@@ -24,7 +32,7 @@ pub enum Shelf {
     Made { count: usize, used: usize },
 }
 
-// Nothing yet, whatever the lent rooms hold.
+// Nothing yet, whatever the lent room holds.
 pub fn start() -> Shelf
     ensures { λ r. ⌜ Bare r ⌝ }
 {
@@ -42,60 +50,50 @@ pub fn full(shelf: Shelf) -> bool
 }
 
 // Puts a word at its place, unless it is there.
-pub fn put(
-    arena: &mut [u8; ROOM],
-    starts: &mut [usize; 257],
-    order: &mut [u8; 256],
-    shelf: Shelf,
-    head: &[u8],
-    tail: &[u8],
-) -> Shelf
-    requires { ⌜ Ready (now arena) (now starts) (now order) shelf ⌝ }
+pub fn put(room: &mut [u8; SHELF], shelf: Shelf, head: &[u8], tail: &[u8]) -> Shelf
+    requires { ⌜ Ready (now room) shelf ⌝ }
     ensures { λ r. ⌜ Gathers ((now (head .entry) ++ now (tail .entry)) ∷ [])
-        (now (arena .entry)) (now (starts .entry)) (now (order .entry)) shelf
-        r (now (arena .exit)) (now (starts .exit)) (now (order .exit)) ⌝ }
+        (now (room .entry)) shelf
+        r (now (room .exit)) ⌝ }
 {
     match shelf {
         Shelf::Full => Shelf::Full,
-        Shelf::Made { count, used } => put_in(arena, starts, order, count, used, head, tail),
+        Shelf::Made { count, used } => put_in(room, count, used, head, tail),
     }
 }
 
 // The word at a place, as a part of the lent room.
-pub fn word<'a>(
-    arena: &'a [u8; ROOM],
-    starts: &[usize; 257],
-    order: &[u8; 256],
-    i: usize,
-) -> &'a [u8]
-    requires { ⌜ Stands (now arena) (now starts) (now order) i ⌝ }
-    ensures { λ r. ⌜ now r ≡ wordAt (now (arena .entry)) (now (starts .entry)) (now (order .entry)) i ⌝ }
+pub fn word<'a>(room: &'a [u8; SHELF], i: usize) -> &'a [u8]
+    requires { ⌜ Stands (now room) i ⌝ }
+    ensures { λ r. ⌜ now r ≡ wordAt (now (room .entry)) i ⌝ }
 {
-    let s = wide(order[i]);
-    let from = starts[s];
-    let to = starts[s + 1];
-    let all = &arena[..];
+    let all = &room[..];
+    let s = wide(all[ORDER + i]);
+    let from = start_of(all, s);
+    let to = start_of(all, s + 1);
     &all[from..to]
 }
 
+// Where the word of a slot starts.
+fn start_of(room: &[u8], k: usize) -> usize
+    requires { ⌜ 5121 + 2 * k < length (now room) ⌝ }
+    ensures { λ r. ⌜ r ≡ startOf (now (room .entry)) k ⌝ }
+{
+    let at = STARTS + 2 * k;
+    wide(room[at]) + 256 * wide(room[at + 1])
+}
+
 // How many words come before a word.
-pub fn place(
-    arena: &[u8; ROOM],
-    starts: &[usize; 257],
-    order: &[u8; 256],
-    count: usize,
-    head: &[u8],
-    tail: &[u8],
-) -> usize
-    requires { ⌜ Standing (now arena) (now starts) (now order) count ⌝ }
-    ensures { λ r. ⌜ Place (now (arena .entry)) (now (starts .entry)) (now (order .entry)) count
+pub fn place(room: &[u8; SHELF], count: usize, head: &[u8], tail: &[u8]) -> usize
+    requires { ⌜ Standing (now room) count ⌝ }
+    ensures { λ r. ⌜ Place (now (room .entry)) count
         (now (head .entry) ++ now (tail .entry)) r ⌝ }
 {
     let mut low: usize = 0;
     let mut high = count;
     while low < high {
         let middle = low + (high - low) / 2;
-        match against(head, tail, word(arena, starts, order, middle)) {
+        match against(head, tail, word(room, middle)) {
             Order::Before => high = middle,
             Order::Same => return middle,
             Order::After => low = middle + 1,
@@ -120,23 +118,15 @@ fn against(head: &[u8], tail: &[u8], word: &[u8]) -> Order
 }
 
 // Whether a word stands at a place.
-fn stands(
-    arena: &[u8; ROOM],
-    starts: &[usize; 257],
-    order: &[u8; 256],
-    count: usize,
-    at: usize,
-    head: &[u8],
-    tail: &[u8],
-) -> bool
-    requires { ⌜ Standing (now arena) (now starts) (now order) count ⌝ }
+fn stands(room: &[u8; SHELF], count: usize, at: usize, head: &[u8], tail: &[u8]) -> bool
+    requires { ⌜ Standing (now room) count ⌝ }
     ensures { λ r. ⌜ Exact ((at < count) × (now (head .entry) ++ now (tail .entry)
-        ≡ wordAt (now (arena .entry)) (now (starts .entry)) (now (order .entry)) at)) r ⌝ }
+        ≡ wordAt (now (room .entry)) at)) r ⌝ }
 {
     if count <= at {
         return false;
     }
-    match against(head, tail, word(arena, starts, order, at)) {
+    match against(head, tail, word(room, at)) {
         Order::Before => false,
         Order::Same => true,
         Order::After => false,
@@ -144,22 +134,14 @@ fn stands(
 }
 
 // The same as `put`, on a shelf that is not full.
-fn put_in(
-    arena: &mut [u8; ROOM],
-    starts: &mut [usize; 257],
-    order: &mut [u8; 256],
-    count: usize,
-    used: usize,
-    head: &[u8],
-    tail: &[u8],
-) -> Shelf
-    requires { ⌜ Ready (now arena) (now starts) (now order) (Made count used) ⌝ }
+fn put_in(room: &mut [u8; SHELF], count: usize, used: usize, head: &[u8], tail: &[u8]) -> Shelf
+    requires { ⌜ Ready (now room) (Made count used) ⌝ }
     ensures { λ r. ⌜ Gathers ((now (head .entry) ++ now (tail .entry)) ∷ [])
-        (now (arena .entry)) (now (starts .entry)) (now (order .entry)) (Made count used)
-        r (now (arena .exit)) (now (starts .exit)) (now (order .exit)) ⌝ }
+        (now (room .entry)) (Made count used)
+        r (now (room .exit)) ⌝ }
 {
-    let at = place(arena, starts, order, count, head, tail);
-    if stands(arena, starts, order, count, at, head, tail) {
+    let at = place(room, count, head, tail);
+    if stands(room, count, at, head, tail) {
         return Shelf::Made { count, used };
     }
     if count == 256 {
@@ -171,9 +153,9 @@ fn put_in(
     if ROOM - used - head.len() < tail.len() {
         return Shelf::Full;
     }
-    let end = store(arena, starts, count, used, head, tail);
-    let slots = &mut order[..];
-    insert(slots, count, at, count as u8);
+    let end = store(room, count, used, head, tail);
+    let all = &mut room[..];
+    insert(all, ORDER + count, ORDER + at, count as u8);
     Shelf::Made {
         count: count + 1,
         used: end,
@@ -181,25 +163,23 @@ fn put_in(
 }
 
 // Lays the bytes of a word behind those in use, in the slot after those in use; gives where they end.
-fn store(
-    arena: &mut [u8; ROOM],
-    starts: &mut [usize; 257],
-    count: usize,
-    used: usize,
-    head: &[u8],
-    tail: &[u8],
-) -> usize
+fn store(room: &mut [u8; SHELF], count: usize, used: usize, head: &[u8], tail: &[u8]) -> usize
     requires { ⌜ (count < 256) × (used + length (now head) + length (now tail) ≤ 5120) ⌝ }
-    ensures { λ r. ⌜ Stored (now (arena .entry)) (now (starts .entry)) count used
-        (now (head .entry) ++ now (tail .entry)) r (now (arena .exit)) (now (starts .exit)) ⌝ }
+    ensures { λ r. ⌜ Stored (now (room .entry)) count used
+        (now (head .entry) ++ now (tail .entry)) r (now (room .exit)) ⌝ }
+    ensures { λ _. ⌜ SameOrder (now (room .entry)) (now (room .exit)) ⌝ }
 {
     let middle = used + head.len();
     let end = middle + tail.len();
-    let all = &mut arena[..];
+    let edges = [
+        (used % 256) as u8,
+        (used / 256) as u8,
+        (end % 256) as u8,
+        (end / 256) as u8,
+    ];
+    let all = &mut room[..];
     copy(all, used, head);
     copy(all, middle, tail);
-    let slots = &mut starts[..];
-    slots[count] = used;
-    slots[count + 1] = end;
+    copy(all, STARTS + 2 * count, &edges);
     end
 }

@@ -24,6 +24,7 @@ pub use read::depth_cap;
 pub use read::final_set;
 pub use read::first_row;
 pub use read::markers;
+pub use read::row_class;
 pub use read::row_count;
 pub use read::row_from;
 pub use read::row_marker;

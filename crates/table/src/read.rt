@@ -96,6 +96,14 @@ pub fn row_symbol(file: &[u8], i: usize) -> usize
     wide(file[ROWS_START + ROW_SIZE * i])
 }
 
+// The class of a row's symbol.
+pub fn row_class(file: &[u8], i: usize) -> Class
+    requires { ⌜ (Good first (now file)) × (i < rowCount (now file)) ⌝ }
+    ensures { λ r. ⌜ meant r ≡ tableOf (now (file .entry)) .class (rowAt (now (file .entry)) i .symbol) ⌝ }
+{
+    class_of(file, file[300 + 8 * i])
+}
+
 pub fn row_from(file: &[u8], i: usize) -> usize
     requires { ⌜ (Good first (now file)) × (i < rowCount (now file)) ⌝ }
     ensures { λ r. ⌜ r ≡ rowAt (now (file .entry)) i .from ⌝ }

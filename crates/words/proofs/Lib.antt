@@ -2,6 +2,7 @@
 -- rising lists; the only rising list with given members; what tests say exactly; what bytes make together; bytes that
 -- are all 0; parts written into a list, one behind the other; what `compare`, `common_length` and `same` find.
 pub mod Lists
+pub mod Each
 pub mod Common
 pub mod Order
 pub mod Arranged

@@ -2,11 +2,11 @@
 -- is one such list. Assumes nothing.
 use mathlib.Core.Path.{_≡_, refl, sym, _∙_, ap}
 use mathlib.Core.Logic.{_⊎_, inl, inr}
-use mathlib.Core.List.{List, [], _∷_}
-use Prim.Native.Nat.{ℕ, suc, _+_, _-_, _<_, _≤_}
+use mathlib.Core.List.{List}
+use Prim.Native.Nat.{ℕ, _+_, _-_, _<_, _≤_}
 use native.Mathlib.Omega.{arith}
-use lib.ListN.{length, getD, set, length-set}
-use lib.Seq.{getD-set-same, getD-set-other}
+use lib.ListN.{length, getD, take, set, length-set, length-take}
+use lib.Seq.{getD-set-same, getD-set-other, getD-take, ext-getD}
 use Rattle.words.specs.Calls.{Inserted}
 use Rattle.words.proofs.Lists.{below-or}
 
@@ -78,19 +78,17 @@ module _ {l l′ : List ℕ} {count at byte : ℕ} (into : Inserted l count at b
           moved (j - 1) e (omega arith) (omega arith)
           (ap (λ (i : ℕ). getD l′ i 0) e ∙ into .after (j - 1) (omega arith) (omega arith))
 
--- lists with the same bytes are one
-same-list : (a b : List ℕ) → length a ≡ length b → ((i : ℕ) → getD a i 0 ≡ getD b i 0) → a ≡ b
-same-list [] [] e h = refl
-same-list [] (y ∷ b) e h = absurd (omega (arith, e))
-same-list (x ∷ a) [] e h = absurd (omega (arith, e))
-same-list (x ∷ a) (y ∷ b) e h =
-    let f : x ≡ y = h 0 in
-    let g : a ≡ b = same-list a b (omega (arith, e)) (λ i. h (suc i)) in
-    rw (f, g) refl
+-- what stands before it is as it was
+pub inserted-take : {l l′ : List ℕ} {count at byte : ℕ} → Inserted l count at byte l′ → (n : ℕ) → n ≤ at
+    → take n l′ ≡ take n l
+inserted-take {l} {l′} into n le =
+    ext-getD 0 (take n l′) (take n l) (rw (length-take, length-take, into .whole) refl) (λ i lt.
+    let i-below : i < n = omega (arith, length-take n l′) in
+    getD-take n l′ i 0 i-below ∙ into .before i (omega arith) ∙ sym (getD-take n l i 0 i-below))
 
 module _ {l p q : List ℕ} {count at byte : ℕ} where
   pub inserted-unique : Inserted l count at byte p → Inserted l count at byte q → p ≡ q
-  inserted-unique a b = same-list p q (a .whole ∙ sym (b .whole)) (λ i. go i (below-or i (count + 1)))
+  inserted-unique a b = ext-getD 0 p q (a .whole ∙ sym (b .whole)) (λ i lt. go i (below-or i (count + 1)))
     where
       from : (i : ℕ) → Came l count at byte p i → getD p i 0 ≡ getD q i 0
       from i (stayed h e) = e ∙ sym (b .before i h)

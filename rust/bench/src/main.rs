@@ -8,7 +8,7 @@ mod report;
 mod workloads;
 
 use engine::{Work, SESSION};
-use jermanuts::{numbers as ours, WORK};
+use jermanuts::{numbers as ours, JoinRoom, WORK};
 use std::hint::black_box;
 use std::process::ExitCode;
 use std::time::{Duration, Instant};
@@ -43,6 +43,7 @@ struct Desk<'a> {
     out: Vec<u8>,
     work: Box<Work>,
     our_work: Box<[u8; WORK]>,
+    our_room: Box<JoinRoom>,
 }
 
 impl<'a> Desk<'a> {
@@ -55,6 +56,7 @@ impl<'a> Desk<'a> {
             out: vec![0; OUT],
             work: Box::new(Work::new()),
             our_work: Box::new([0; WORK]),
+            our_room: Box::new(JoinRoom::new()),
         };
         let led = match &workload.kind {
             Kind::Steps { before, .. } | Kind::Finish { before } => before.as_slice(),
@@ -132,7 +134,9 @@ impl<'a> Desk<'a> {
             (Kind::Finish { .. }, Side::Rust) => {
                 with_count(engine::finish(file, &self.session, out))
             }
-            (Kind::Join { second }, Side::Ours) => with_which(ours::join(file, second, out)),
+            (Kind::Join { second }, Side::Ours) => {
+                with_which(ours::join_in(file, second, out, &mut self.our_room))
+            }
             (Kind::Join { second }, Side::Rust) => with_which(engine::join(file, second, out)),
         }
     }

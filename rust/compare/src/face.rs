@@ -4,6 +4,8 @@ use crate::session::BYTES;
 use std::sync::atomic::{AtomicBool, Ordering};
 
 const WORK: usize = 49_920;
+const SHELF: usize = 5_890;
+const TAPE: usize = 4_128;
 const GUARD: usize = 64;
 const UNTOUCHED: usize = 0x5a5a_5a5a_5a5a;
 
@@ -48,6 +50,19 @@ extern "C" {
         which: *mut u32,
         count: *mut usize,
     ) -> u32;
+    fn jermanuts_join_in(
+        first: *const u8,
+        first_len: usize,
+        second: *const u8,
+        second_len: usize,
+        out: *mut u8,
+        out_len: usize,
+        which: *mut u32,
+        count: *mut usize,
+        marks: *mut u8,
+        rows: *mut u8,
+        tape: *mut u8,
+    ) -> u32;
 }
 
 /// What a call gave back and left behind, as far as the call has such a thing.
@@ -69,15 +84,17 @@ pub enum Call {
     StepIn,
     Finish,
     Join,
+    JoinIn,
 }
 
-pub const CALLS: [(Call, &str); 6] = [
+pub const CALLS: [(Call, &str); 7] = [
     (Call::Check, "check"),
     (Call::Begin, "begin"),
     (Call::Step, "step"),
     (Call::StepIn, "step_in"),
     (Call::Finish, "finish"),
     (Call::Join, "join"),
+    (Call::JoinIn, "join_in"),
 ];
 
 /// Under a memory checker buffers end where they end, since reads past the end leave guards whole.
@@ -172,7 +189,7 @@ pub fn ask(call: Call, file: &[u8], session: &[u8], symbol: u8, room: usize, tur
             Call::Step => jermanuts_step(f, n, s, symbol, o, room, c),
             Call::StepIn => jermanuts_step_in(f, n, s, symbol, o, room, c, w),
             Call::Finish => jermanuts_finish(f, n, s.cast_const(), o, room, c),
-            Call::Join => unreachable!("a join has two files: ask_join"),
+            Call::Join | Call::JoinIn => unreachable!("a join has two files: ask_join"),
         }
     };
 
@@ -212,8 +229,8 @@ fn first_harm(harms: &[(&'static str, bool)]) -> Option<&'static str> {
         .map(|(name, _)| *name)
 }
 
-/// Joins two files once.
-pub fn ask_join(first: &[u8], second: &[u8], room: usize, turn: usize) -> Reply {
+/// Joins two files once, by the call or in rooms that are lent with dirt.
+pub fn ask_join(call: Call, first: &[u8], second: &[u8], room: usize, turn: usize) -> Reply {
     let mut lent_first = Lent::new(turn, first);
     let mut lent_second = Lent::new(turn / 3, second);
     let mut out = Lent::new(turn / 5, &filling(room));
@@ -227,8 +244,23 @@ pub fn ask_join(first: &[u8], second: &[u8], room: usize, turn: usize) -> Reply 
     let o = out.pointer();
     let w = which.as_mut_ptr().wrapping_add(1);
     let c = counts.as_mut_ptr().wrapping_add(1);
+    let (n, m) = (first.len(), second.len());
+    let dirt = (turn as u8).wrapping_mul(37) ^ 0x55;
+    let mut lent = [SHELF, SHELF, TAPE].map(|length| Lent::new(turn / 7, &vec![dirt; length]));
+    // A memory checker gets rooms that nobody has written to, and sees what depends on them.
+    let mut unwritten = [SHELF, SHELF, TAPE].map(Vec::<u8>::with_capacity);
+    let exact = EXACT.load(Ordering::Relaxed);
+    let [x, y, z] = [0, 1, 2].map(|at| match exact {
+        true => unwritten[at].as_mut_ptr(),
+        false => lent[at].pointer(),
+    });
     // SAFETY: every pointer leads to a live buffer of the length told, and no two overlap.
-    let number = unsafe { jermanuts_join(f, first.len(), s, second.len(), o, room, w, c) };
+    let number = unsafe {
+        match call {
+            Call::JoinIn => jermanuts_join_in(f, n, s, m, o, room, w, c, x, y, z),
+            _ => jermanuts_join(f, n, s, m, o, room, w, c),
+        }
+    };
 
     let harm = first_harm(&[
         ("a guard of the first file", !lent_first.guards_hold()),
@@ -236,6 +268,7 @@ pub fn ask_join(first: &[u8], second: &[u8], room: usize, turn: usize) -> Reply 
         ("a guard of the second file", !lent_second.guards_hold()),
         ("the second file", lent_second.content() != second),
         ("a guard of the output", !out.guards_hold()),
+        ("a guard of a room", !lent.iter().all(Lent::guards_hold)),
         (
             "a neighbour of the byte count",
             counts[0] != UNTOUCHED || counts[2] != UNTOUCHED,

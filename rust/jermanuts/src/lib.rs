@@ -53,6 +53,60 @@ pub const SESSION: usize = 33_218;
 /// ```
 pub const WORK: usize = 49_920;
 
+/// Bytes of each of the two shelves that a join works with.
+///
+/// ```
+/// assert_eq!(jermanuts::JoinRoom::new().marks.len(), jermanuts::SHELF);
+/// assert_eq!(jermanuts::SHELF, 5_890);
+/// ```
+pub const SHELF: usize = 5_890;
+
+/// Bytes of the tape that a join works with.
+///
+/// ```
+/// assert_eq!(jermanuts::JoinRoom::new().tape.len(), jermanuts::TAPE);
+/// assert_eq!(jermanuts::TAPE, 4_128);
+/// ```
+pub const TAPE: usize = 4_128;
+
+/// The room that [`Table::join_in`] works in, in its three parts. What they hold doesn't matter.
+///
+/// ```
+/// static ROOM: jermanuts::JoinRoom = jermanuts::JoinRoom::new();
+/// assert_eq!(ROOM.rows.len(), ROOM.marks.len());
+/// ```
+pub struct JoinRoom {
+    /// The joined markers.
+    pub marks: [u8; SHELF],
+    /// The joined rows.
+    pub rows: [u8; SHELF],
+    /// The second table's stack, and what it wrote.
+    pub tape: [u8; TAPE],
+}
+
+impl JoinRoom {
+    /// A room of zeros.
+    ///
+    /// ```
+    /// let room = jermanuts::JoinRoom::new();
+    /// assert_eq!(room.tape[0], 0);
+    /// ```
+    #[must_use]
+    pub const fn new() -> JoinRoom {
+        JoinRoom {
+            marks: [0; SHELF],
+            rows: [0; SHELF],
+            tape: [0; TAPE],
+        }
+    }
+}
+
+impl Default for JoinRoom {
+    fn default() -> JoinRoom {
+        JoinRoom::new()
+    }
+}
+
 /// Bytes of output that suffice for every step and finish.
 ///
 /// ```

@@ -5,7 +5,7 @@
 //! what the header `include/jermanuts.h` asks in words. Lengths are right, no pointer is null, and
 //! nothing that is written overlaps anything.
 
-use crate::{SESSION, WORK};
+use crate::{JoinRoom, SESSION, WORK};
 
 extern "C" {
     fn jermanuts_check(file: *const u8, file_len: usize) -> u32;
@@ -47,6 +47,19 @@ extern "C" {
         out_len: usize,
         which: *mut u32,
         count: *mut usize,
+    ) -> u32;
+    fn jermanuts_join_in(
+        first: *const u8,
+        first_len: usize,
+        second: *const u8,
+        second_len: usize,
+        out: *mut u8,
+        out_len: usize,
+        which: *mut u32,
+        count: *mut usize,
+        marks: *mut u8,
+        rows: *mut u8,
+        tape: *mut u8,
     ) -> u32;
 }
 
@@ -194,6 +207,42 @@ pub fn join(first: &[u8], second: &[u8], out: &mut [u8]) -> (u32, u32, usize) {
             out.len(),
             &mut which,
             &mut count,
+        )
+    };
+    (number, which, count)
+}
+
+/// The number, the table that is bad (1 or 2; 0 where none is), and the byte count.
+///
+/// ```
+/// use jermanuts::{numbers, JoinRoom};
+///
+/// # const G: &[u8] = include_bytes!(concat!(env!("CARGO_MANIFEST_DIR"), "/../../samples/g.table"));
+/// let (mut out, mut room) = ([0; jermanuts::FILE], JoinRoom::new());
+/// assert_eq!(numbers::join_in(G, b"no rule file", &mut out, &mut room), (1, 2, 0));
+/// ```
+pub fn join_in(
+    first: &[u8],
+    second: &[u8],
+    out: &mut [u8],
+    room: &mut JoinRoom,
+) -> (u32, u32, usize) {
+    let mut which = 0;
+    let mut count = 0;
+    // SAFETY: as in `join`; the parts of the room have their lengths by their types.
+    let number = unsafe {
+        jermanuts_join_in(
+            first.as_ptr(),
+            first.len(),
+            second.as_ptr(),
+            second.len(),
+            out.as_mut_ptr(),
+            out.len(),
+            &mut which,
+            &mut count,
+            room.marks.as_mut_ptr(),
+            room.rows.as_mut_ptr(),
+            room.tape.as_mut_ptr(),
         )
     };
     (number, which, count)

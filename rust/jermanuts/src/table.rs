@@ -1,7 +1,7 @@
 use core::borrow::BorrowMut;
 use core::fmt::{self, Debug, Formatter};
 
-use crate::{numbers, Refusal, Session, SESSION};
+use crate::{numbers, JoinRoom, Refusal, Session, SESSION};
 
 /// A rule file that was checked and keeps every rule. It borrows the file, and copies are cheap.
 ///
@@ -96,6 +96,39 @@ impl<'a> Table<'a> {
     /// ```
     pub fn join<'o>(self, second: Table<'_>, out: &'o mut [u8]) -> Result<Table<'o>, Refusal> {
         let (number, _, count) = numbers::join(self.file, second.file, out);
+        Refusal::told(number)?;
+        // What join writes is a good file: proved, so not checked again.
+        Ok(Table {
+            file: &out[..count],
+        })
+    }
+
+    /// The same in a room that is lent, for stacks that are small.
+    ///
+    /// # Errors
+    ///
+    /// As [`join`](Table::join).
+    ///
+    /// ```
+    /// use jermanuts::{JoinRoom, Refusal, Table, FILE};
+    ///
+    /// # const BRACKETS: &[u8] =
+    /// #     include_bytes!(concat!(env!("CARGO_MANIFEST_DIR"), "/../../samples/brackets.table"));
+    /// # const BRIDGE: &[u8] =
+    /// #     include_bytes!(concat!(env!("CARGO_MANIFEST_DIR"), "/../../samples/bridge.table"));
+    /// let (brackets, bridge) = (Table::new(BRACKETS)?, Table::new(BRIDGE)?);
+    /// let (mut file, mut room) = ([0; FILE], JoinRoom::new());
+    /// let joined = brackets.join_in(bridge, &mut file, &mut room)?;
+    /// assert_eq!(joined.file().len(), 320);
+    /// # Ok::<(), Refusal>(())
+    /// ```
+    pub fn join_in<'o>(
+        self,
+        second: Table<'_>,
+        out: &'o mut [u8],
+        room: &mut JoinRoom,
+    ) -> Result<Table<'o>, Refusal> {
+        let (number, _, count) = numbers::join_in(self.file, second.file, out, room);
         Refusal::told(number)?;
         // What join writes is a good file: proved, so not checked again.
         Ok(Table {

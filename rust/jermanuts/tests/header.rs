@@ -51,6 +51,8 @@ fn lengths() {
     let lengths = [
         ("JERMANUTS_SESSION", jermanuts::SESSION),
         ("JERMANUTS_WORK", jermanuts::WORK),
+        ("JERMANUTS_SHELF", jermanuts::SHELF),
+        ("JERMANUTS_TAPE", jermanuts::TAPE),
         ("JERMANUTS_OUT", jermanuts::OUT),
         ("JERMANUTS_FILE", jermanuts::FILE),
     ];

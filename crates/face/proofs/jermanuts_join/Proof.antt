@@ -6,9 +6,8 @@ use Rattle.face.proofs.jermanuts_join.Tie as tie
 
 returns : tie.Need-returns
 returns c =
-    let said = c .said-by-join .ensures in
     let joined = c .before .before .before in
-    said-joined (joined .join .result) (said .0) (said .1) (said .2) (joined .join .ensures)
+    said-joined (joined .join .result) (c .number-of .ensures) (joined .join .ensures)
 
 pub jermanuts-join-spec : {M : Type 1} → statement M
 jermanuts-join-spec = tie.close (tie.spec (λ c κs. search needs) (λ c κs. search needs) (λ c. search needs) returns)

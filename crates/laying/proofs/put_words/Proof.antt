@@ -8,18 +8,17 @@ use Rattle.laying.proofs.put_words.Statement.{statement}
 use Rattle.laying.proofs.put_words.Tie as tie
 
 abbrev Inv-loop : tie.InvT-loop
-Inv-loop out₀ at count arena starts order end₀ i₀ out end i =
-    WordsPut arena starts order out₀ at count i out end
+Inv-loop out₀ at count rows end₀ i₀ out end i = WordsPut rows out₀ at count i out end
 
 abbrev μ-loop : tie.MeasureT-loop
-μ-loop out₀ at count arena starts order end₀ i₀ out end i = count - i
+μ-loop out₀ at count rows end₀ i₀ out end i = count - i
 
 -- the key that is next
 the-key : (c : tie.After-word Inv-loop μ-loop) → Key (c .word .result .now)
-the-key c = word-key _ _ _ (c .before .before .loop .inv) _ (c .word .ensures) (omega arith)
+the-key c = word-key _ (c .before .before .loop .inv) _ (c .word .ensures) (omega arith)
 
 loop-holds : tie.Need-loop-holds Inv-loop μ-loop
-loop-holds c = words-none _ _ _ _ _ _ (c .before .pre .0) (c .before .pre .1)
+loop-holds c = words-none _ _ _ _ (c .before .pre .0) (c .before .pre .1)
 
 word-requires : tie.Need-word-requires Inv-loop μ-loop
 word-requires c κs =
@@ -34,19 +33,19 @@ part-put-bytes-start c = omega (arith, the-key (c .before) .whole)
 put-bytes-requires : tie.Need-put-bytes-requires Inv-loop μ-loop
 put-bytes-requires c κs =
     let word = c .before .before in
-    word-room _ _ _ (word .before .before .loop .inv) _ (word .word .ensures) (omega arith)
+    word-room _ (word .before .before .loop .inv) _ (word .word .ensures) (omega arith)
 
 loop-again : tie.Need-loop-again Inv-loop μ-loop
 loop-again c =
     let put = c .before .before in
     let word = put .before .before .before in
-    word-put _ _ _ (word .before .before .loop .inv) _ (word .word .ensures) (omega arith) (put .put-bytes .ensures)
+    word-put _ (word .before .before .loop .inv) _ (word .word .ensures) (omega arith) (put .put-bytes .ensures)
 
 same-length : tie.Need-same-length Inv-loop μ-loop
-same-length c = words-whole _ _ _ (c .before .loop .inv)
+same-length c = words-whole _ (c .before .loop .inv)
 
 returns : tie.Need-returns Inv-loop μ-loop
-returns c = words-all _ _ _ (c .before .loop .inv) (omega arith)
+returns c = words-all _ (c .before .loop .inv) (omega arith)
 
 pub put-words-spec : {M : Type 1} → statement M
 put-words-spec =

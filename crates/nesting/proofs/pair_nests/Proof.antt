@@ -14,7 +14,7 @@ returns c = pair-apart (λ e. omega arith)
 row-class-requires : tie.Need-row-class-requires
 row-class-requires c κs =
     let pre = c .before .before .before .before .before .pre in
-    (pre .0 .hops .first, pre .0 .hops .first-bytes, pre .1)
+    (pre .0 .hops .first, pre .1)
 
 row-word-requires : tie.Need-row-word-requires
 row-word-requires c κs =

@@ -14,11 +14,11 @@ use Rattle.shelf.proofs.place.Statement.{statement}
 use Rattle.shelf.proofs.place.Tie as tie
 
 abbrev Inv-loop : tie.InvT-loop
-Inv-loop arena starts order count head tail low₀ high₀ low high =
-    Narrowed arena starts order count (head ++ tail) low high
+Inv-loop room count head tail low₀ high₀ low high =
+    Narrowed room count (head ++ tail) low high
 
 abbrev μ-loop : tie.MeasureT-loop
-μ-loop arena starts order count head tail low₀ high₀ low high = high - low
+μ-loop room count head tail low₀ high₀ low high = high - low
 
 -- what holds before the loop, and the place that a turn looks at
 module _ (c : tie.In-loop Inv-loop μ-loop) where
@@ -30,7 +30,7 @@ module _ (c : tie.In-loop Inv-loop μ-loop) where
 
 found : (c : tie.After-against Inv-loop μ-loop) → let test = c .before .before in let z = start test .args in
     sideOf (c .against .result)
-    ≡ side (z .head .now ++ z .tail .now) (wordAt (z .arena .now) (z .starts .now) (z .order .now) (middle test))
+    ≡ side (z .head .now ++ z .tail .now) (wordAt (z .room .now) (middle test))
 found c =
     let z = start (c .before .before) .args in
     c .against .ensures ∙ ap (side (z .head .now ++ z .tail .now)) (c .before .word .ensures)

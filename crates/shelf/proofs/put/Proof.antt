@@ -6,7 +6,7 @@ use Rattle.shelf.proofs.put.Tie as tie
 
 put-in-requires : tie.Need-put-in-requires
 put-in-requires c κs =
-    let matched = c .before .before .before .before in
+    let matched = c .before .before in
     let pre = matched .before .before .before .before .pre in
     (pre .0, shelved-made (pre .1 .made _ _ (matched .shelf .given .1)))
 
@@ -15,7 +15,7 @@ returns c = gathers-full _ (c .enum-told .given .1)
 
 returns-2 : tie.Need-returns-2
 returns-2 c = λ made g.
-    let matched = c .before .before .before .before .before in
+    let matched = c .before .before .before in
     c .put-in .ensures made (shelved-made (g .made _ _ (matched .shelf .given .1)))
 
 pub put-spec : {M : Type 1} → statement M

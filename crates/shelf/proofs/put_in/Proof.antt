@@ -3,7 +3,7 @@ use mathlib.Core.Path.{_≡_, refl, sym, _∙_}
 use mathlib.Core.Bool.{false≢true}
 use mathlib.Core.Logic.{inl, inr}
 use mathlib.Core.List.{_++_}
-use Prim.Native.Nat.{_+_, _<_}
+use Prim.Native.Nat.{_+_, _<_, _≤_}
 use native.Mathlib.Omega.{arith}
 use lib.ListN.{length, length-append}
 use Rattle.shelf.specs.Shelved.{wordAt, Held}
@@ -16,10 +16,10 @@ use Rattle.shelf.proofs.put_in.Tie as tie
 -- where it is known whether the word is there
 module _ (c : tie.After-stands) where
   abbrev placed : tie.After-place
-  placed = c .before .before .before .before
+  placed = c .before .before
 
   abbrev start : tie.Start
-  start = placed .before .before .before .before .before .before
+  start = placed .before .before .before .before
 
   abbrev long : length (start .args .head .now ++ start .args .tail .now)
       ≡ length (start .args .head .now) + length (start .args .tail .now)
@@ -28,20 +28,20 @@ module _ (c : tie.After-stands) where
 new : (c : tie.Else1) → let z = start (c .before) .args in
     placed (c .before) .place .result < z .count
     → z .head .now ++ z .tail .now
-    ≡ wordAt (z .arena .now) (z .starts .now) (z .order .now) (placed (c .before) .place .result) → ⊥
+    ≡ wordAt (z .room .now) (placed (c .before) .place .result) → ⊥
 new c l e = false≢true (sym (c .if1 .left) ∙ c .before .stands .ensures .0 (l, e))
 
 -- what was put before stands
 held-before : (s : tie.Start) → let z = s .args in
-    Held (s .pre .0) (z .arena .now) (z .starts .now) (z .order .now) (z .count) (z .used)
+    Held (s .pre .0) (z .room .now) (z .count) (z .used)
 held-before s = s .pre .1 .made _ _ refl
 
 place-requires : tie.Need-place-requires
-place-requires c κs = held-before (c .before .before .before .before .before) .standing
+place-requires c κs = held-before (c .before .before .before) .standing
 
 stands-requires : tie.Need-stands-requires
 stands-requires c κs =
-    held-before (c .before .before .before .before .before .before .before .before .before) .standing
+    held-before (c .before .before .before .before .before) .standing
 
 returns : tie.Need-returns
 returns c = λ made g.
@@ -54,7 +54,7 @@ returns-2 c = λ made g.
     shelved-full (inl (omega arith))
 
 sub-if3 : tie.Need-sub-if3
-sub-if3 c = held-before (start (c .before .before)) .room
+sub-if3 c = held-before (start (c .before .before)) .fits
 
 returns-3 : tie.Need-returns-3
 returns-3 c = λ made g.
@@ -63,7 +63,7 @@ returns-3 c = λ made g.
     shelved-full (inr (omega (arith, long stands)))
 
 sub-if4 : tie.Need-sub-if4
-sub-if4 c = held-before (start (c .before .before .before)) .room
+sub-if4 c = held-before (start (c .before .before .before)) .fits
 
 returns-4 : tie.Need-returns-4
 returns-4 c = λ made g.
@@ -73,32 +73,44 @@ returns-4 c = λ made g.
 
 store-requires : tie.Need-store-requires
 store-requires c κs =
-    let s = held-before (start (c .before .before .before .before .before .before)) in
-    (omega (arith, s .standing .few), omega (arith, s .room))
+    let s = held-before (start (c .before .before .before .before .before)) in
+    (omega (arith, s .standing .few), omega (arith, s .fits))
+
+-- where the slot is inserted: the slots in use are few, and what is known of the place
+few : (c : tie.After-all) → start (c .before .before .before .before .before .before .before) .args .count < 256
+few c =
+    let stands = c .before .before .before .before .before .before .before in
+    omega (arith, held-before (start stands) .standing .few)
+
+inside : (c : tie.After-all)
+    → let stands = c .before .before .before .before .before .before .before in
+    placed stands .place .result ≤ start stands .args .count
+inside c = placed (c .before .before .before .before .before .before .before) .place .ensures .within
+
+add-insert : tie.Need-add-insert
+add-insert c = omega (arith, few c)
+
+add-insert-2 : tie.Need-add-insert-2
+add-insert-2 c = omega (arith, few c, inside c)
 
 cast-insert : tie.Need-cast-insert
-cast-insert c =
-    let stands = c .before .before .before .before .before .before .before .before in
-    omega (arith, held-before (start stands) .standing .few)
+cast-insert c = omega (arith, few c)
 
 insert-requires : tie.Need-insert-requires
-insert-requires c κs =
-    let stands = c .before .before .before .before .before .before .before .before in
-    (placed stands .place .ensures .within, omega (arith, held-before (start stands) .standing .few))
+insert-requires c κs = (omega (arith, inside c), omega (arith, few c))
 
-add-t19 : tie.Need-add-t19
-add-t19 c =
-    let stands = c .before .before .before .before .before .before .before .before .before in
-    omega (arith, held-before (start stands) .standing .few)
+add-t16 : tie.Need-add-t16
+add-t16 c = omega (arith, few (c .before))
 
 returns-5 : tie.Need-returns-5
 returns-5 c = λ made g.
     let store = c .before .before in
-    let else = store .before .before .before .before .before .before in
+    let else = store .before .before .before .before .before in
     let s = g .made _ _ refl in
     shelved-made
-    (held-new s (placed (else .before) .place .ensures) (new else) (store .store .ensures) (c .insert .ensures)
-    (omega (arith, s .standing .few)) (omega (arith, s .room, store .store .ensures .long, long (else .before))))
+    (held-new s (placed (else .before) .place .ensures) (new else) (store .store .ensures .0) (store .store .ensures .1)
+    (c .insert .ensures) (few (c .before))
+    (omega (arith, s .fits, store .store .ensures .0 .long, long (else .before))))
 
 pub put-in-spec : {M : Type 1} → statement M
 put-in-spec =
@@ -114,7 +126,9 @@ put-in-spec =
     (λ c. search needs)
     returns-4
     store-requires
+    add-insert
+    add-insert-2
     cast-insert
     insert-requires
-    add-t19
+    add-t16
     returns-5)

@@ -17,11 +17,11 @@ use Rattle.shelf.proofs.stands.Tie as tie
 told : (c : tie.After-against) (s : Side) → sideOf (c .against .result) ≡ s
     → let z = c .before .before .before .before .before .args in
     Exact ((z .at < z .count)
-    × (z .head .now ++ z .tail .now ≡ wordAt (z .arena .now) (z .starts .now) (z .order .now) (z .at))) (isSame s)
+    × (z .head .now ++ z .tail .now ≡ wordAt (z .room .now) (z .at))) (isSame s)
 told c s e =
     let z = c .before .before .before .before .before .args in
     let w : Word = z .head .now ++ z .tail .now in
-    let v : Word = wordAt (z .arena .now) (z .starts .now) (z .order .now) (z .at) in
+    let v : Word = wordAt (z .room .now) (z .at) in
     let d : side w v ≡ s = sym (c .against .ensures ∙ ap (side w) (c .before .word .ensures)) ∙ e in
     exact-as (λ f. (omega arith, f), λ p. p .1)
     (subst (λ (s : Side). Exact (w ≡ v) (isSame s)) d (same-exact w v))

@@ -163,8 +163,20 @@ impl Trial {
         room: usize,
         expected: &Expected,
     ) -> Outcome {
+        self.compare_call(Call::Join, first, second, room, expected)?;
+        self.compare_call(Call::JoinIn, first, second, room, expected)
+    }
+
+    fn compare_call(
+        &mut self,
+        call: Call,
+        first: &Subject,
+        second: &Subject,
+        room: usize,
+        expected: &Expected,
+    ) -> Outcome {
         self.turn += 1;
-        let reply = face::ask_join(&first.file, &second.file, room, self.turn);
+        let reply = face::ask_join(call, &first.file, &second.file, room, self.turn);
         let fits = expected.file.len() <= room;
         let number = if fits {
             expected.number
@@ -184,7 +196,7 @@ impl Trial {
         };
         if reply != wanted {
             let told = [
-                format!("join, room {room}"),
+                format!("{call:?}, room {room}"),
                 format!("first   {}", hex(&first.file)),
                 format!("second  {}", hex(&second.file)),
                 format!("model   {} ({number:?})", tell(&wanted)),
@@ -193,7 +205,7 @@ impl Trial {
             return Err(self.difference(&told.join("\n")));
         }
         self.joined.which[expected.which as usize] += 1;
-        self.count(Call::Join, number);
+        self.count(call, number);
         Ok(())
     }
 

@@ -14,7 +14,7 @@ use Rattle.joiner.proofs.gathering.close_goal.Tie as tie
 cast-symbol : tie.Need-cast-symbol
 cast-symbol c =
     let start = c .before .before .before in
-    let small = getD-byte _ (start .pre .0 .small .hops .first-bytes) (rowStart (start .args .x)) in
+    let small = getD-byte _ (start .pre .0 .small .hops .first-bytes) (rowStart (start .args .at .row)) in
     omega (arith, c .row-symbol .ensures)
 
 pair-number-requires : tie.Need-pair-number-requires
@@ -33,7 +33,8 @@ returns c =
     let symbol = from .before .before in
     let a = symbol .before .before .before .args in
     let n = tableOf (a .second .now) .states in
-    let from-is = from .pair-number .ensures ∙ ap (λ (p : ℕ). pair n p (a .q)) (from .before .row-from .ensures) in
+    let from-is =
+    from .pair-number .ensures ∙ ap (λ (p : ℕ). pair n p (a .at .state)) (from .before .row-from .ensures) in
     let base-is = c .pair-number2 .ensures ∙ ap (λ (p : ℕ). pair n p 0) (c .before .row-to .ensures) in
     λ i. Close (symbol .row-symbol .ensures i) (from-is i) (base-is i) (a .number)
 

@@ -1,41 +1,38 @@
 -- `joiner::gathering::gather` meets its contract. Assumes nothing.
-use mathlib.Core.Path.{refl}
 use mathlib.Core.List.{[]}
 use Prim.Native.Nat.{_-_, _≤_}
 use native.Mathlib.Omega.{arith}
 use Rattle.table.specs.File.{rowCount}
 use Rattle.joiner.specs.Gathering.{givenBy}
 use Rattle.joiner.proofs.Passing.{Passing, passing-start, passing-ready, passing-next, passing-end}
+use Rattle.joiner.proofs.Given.{given-all}
 use borrow.Author.Needs.{needs}
 use Rattle.joiner.proofs.gathering.gather.Statement.{statement}
 use Rattle.joiner.proofs.gathering.gather.Tie as tie
 
 abbrev Inv-loop : tie.InvT-loop
-Inv-loop first second wanted stack₀ out₀ keys edges turns marks arena₀ starts₀ order₀ n made₀ x₀ stack out arena
-    starts order made x =
-    (x ≤ n) × Passing (givenBy wanted first second) arena₀ starts₀ order₀ made₀ x arena starts order made
+Inv-loop first second wanted marks rows₀ tape₀ n made₀ row₀ rows tape made row =
+    (row ≤ n) × Passing (givenBy wanted first second) rows₀ made₀ row rows made
 
 abbrev μ-loop : tie.MeasureT-loop
-μ-loop first second wanted stack₀ out₀ keys edges turns marks arena₀ starts₀ order₀ n made₀ x₀ stack out arena starts
-    order made x =
-    n - x
+μ-loop first second wanted marks rows₀ tape₀ n made₀ row₀ rows tape made row = n - row
 
 loop-holds : tie.Need-loop-holds Inv-loop μ-loop
 loop-holds c = (omega arith, passing-start)
 
 gather-row-requires : tie.Need-gather-row-requires Inv-loop μ-loop
 gather-row-requires c κs =
-    let in-loop = c .before .before .before .before .before in
+    let in-loop = c .before .before in
     let at-loop = in-loop .before in
     let begun = at-loop .before in
     let pre = begun .before .before .before .before .pre in (
       (pre .0, omega (arith, in-loop .loop-test .taken, begun .before .row-count .ensures)),
-      (pre .1, passing-ready (at-loop .loop .inv .1) ([], begun .start .ensures _ _ _)),
+      (pre .1, passing-ready (at-loop .loop .inv .1) ([], begun .start .ensures _)),
     )
 
 loop-again : tie.Need-loop-again Inv-loop μ-loop
 loop-again c =
-    let in-loop = c .before .before .before .before .before .before in
+    let in-loop = c .before .before .before in
     (omega (arith, in-loop .loop-test .taken), passing-next (in-loop .before .loop .inv .1) (c .gather-row .ensures))
 
 returns : tie.Need-returns Inv-loop μ-loop
@@ -44,7 +41,8 @@ returns c =
     let begun = at-loop .before in
     let a = begun .before .before .before .before .args in
     passing-end (at-loop .loop .inv .1) (rowCount (a .first .now))
-    (omega (arith, begun .before .row-count .ensures)) refl [] (begun .start .ensures _ _ _)
+    (omega (arith, begun .before .row-count .ensures))
+    (given-all (a .wanted) (a .first .now) (a .second .now)) [] (begun .start .ensures _)
 
 pub gather-spec : {M : Type 1} → statement M
 gather-spec =

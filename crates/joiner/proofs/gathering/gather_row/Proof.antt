@@ -10,21 +10,18 @@ use Rattle.joiner.proofs.gathering.gather_row.Statement.{statement}
 use Rattle.joiner.proofs.gathering.gather_row.Tie as tie
 
 abbrev Inv-loop : tie.InvT-loop
-Inv-loop first second wanted x stack₀ out₀ keys edges turns marks arena₀ starts₀ order₀ n made₀ q₀ stack out arena
-    starts order made q =
-    (q ≤ n) × Passing (givenAt wanted first second x) arena₀ starts₀ order₀ made₀ q arena starts order made
+Inv-loop first second wanted row marks rows₀ tape₀ n made₀ state₀ rows tape made state =
+    (state ≤ n) × Passing (givenAt wanted first second row) rows₀ made₀ state rows made
 
 abbrev μ-loop : tie.MeasureT-loop
-μ-loop first second wanted x stack₀ out₀ keys edges turns marks arena₀ starts₀ order₀ n made₀ q₀ stack out arena
-    starts order made q =
-    n - q
+μ-loop first second wanted row marks rows₀ tape₀ n made₀ state₀ rows tape made state = n - state
 
 loop-holds : tie.Need-loop-holds Inv-loop μ-loop
 loop-holds c = (omega arith, passing-start)
 
 gather-at-requires : tie.Need-gather-at-requires Inv-loop μ-loop
 gather-at-requires c κs =
-    let in-loop = c .before .before .before .before .before in
+    let in-loop = c .before .before in
     let at-loop = in-loop .before in
     let pre = at-loop .before .before .before .before .pre in (
       record {
@@ -37,7 +34,7 @@ gather-at-requires c κs =
 
 loop-again : tie.Need-loop-again Inv-loop μ-loop
 loop-again c =
-    let in-loop = c .before .before .before .before .before .before in
+    let in-loop = c .before .before .before in
     (omega (arith, in-loop .loop-test .taken), passing-next (in-loop .before .loop .inv .1) (c .gather-at .ensures))
 
 returns : tie.Need-returns Inv-loop μ-loop
@@ -46,7 +43,7 @@ returns c =
     let a = at-loop .before .before .before .before .args in
     passing-end (at-loop .loop .inv .1) (tableOf (a .second .now) .states)
     (omega (arith, at-loop .before .states .ensures))
-    (by-states (a .wanted) (a .first .now) (a .second .now) (a .x))
+    (by-states (a .wanted) (a .first .now) (a .second .now) (a .row))
 
 pub gather-row-spec : {M : Type 1} → statement M
 gather-row-spec =

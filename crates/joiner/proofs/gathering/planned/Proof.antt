@@ -18,13 +18,14 @@ returns-3 c =
 
 returns-4 : tie.Need-returns-4
 returns-4 c =
-    let told = c .before .before in
-    rw (← told .before .before .row-class .ensures, told .enum-told3 .given .1, c .enum-told5 .given .1)
+    let wanted = c .before in
+    let told = wanted .before .before in
+    rw (← told .before .before .row-class .ensures, told .enum-told3 .given .1, wanted .wanted .given .1)
 
 returns-5 : tie.Need-returns-5
 returns-5 c =
     let told = c .before .before in
-    rw (← told .before .before .row-class .ensures, told .enum-told6 .given .1, c .enum-told7 .given .1)
+    rw (← told .before .before .row-class .ensures, told .enum-told5 .given .1, c .enum-told6 .given .1)
 
 returns-6 : tie.Need-returns-6
 returns-6 c =
@@ -32,8 +33,8 @@ returns-6 c =
     let told = rows .before .before in
     rw (
       ← told .before .before .row-class .ensures,
-      told .enum-told6 .given .1,
-      rows .enum-told8 .given .1,
+      told .enum-told5 .given .1,
+      rows .enum-told7 .given .1,
       c .close-goal .ensures,
     )
 

@@ -7,7 +7,8 @@ use Rattle.words.specs.Words.{Word}
 use Rattle.shelf.specs.Shelved.{wordAt}
 use Rattle.shelf.proofs.Laws.{gathers-none, gathers-as}
 use Rattle.joiner.specs.Gathering.{markOf}
-use Rattle.joiner.proofs.Given.{suited-close}
+use Rattle.table.proofs.Passed.{good-word}
+use Rattle.joiner.proofs.Given.{suited-close, row-reads, row-suited, row-found}
 use Rattle.joiner.proofs.FromMarks.{key-long, return-other, return-same, laid}
 use borrow.Author.Needs.{needs}
 use Rattle.joiner.proofs.gathering.return_row.Statement.{statement}
@@ -17,16 +18,17 @@ use Rattle.joiner.proofs.gathering.return_row.Tie as tie
 abbrev key-of : tie.After-word → Word
 key-of c =
     let a = c .before .before .before .args in
-    wordAt (a .keys .now) (a .edges .now) (a .turns .now) (a .i)
+    wordAt (a .marks .now) (a .i)
 
 long : (c : tie.After-word) → (0 < length (c .word .result .now)) × (length (c .word .result .now) ≤ 17)
 long c =
     let pre = c .before .before .before .pre in
-    rw (c .word .ensures) (key-long (pre .1 .0) (pre .0 .0 .small) (pre .0 .1))
+    rw (c .word .ensures) (key-long (pre .1 .0 .all) (pre .0 .small) (pre .1 .0 .within))
 
-left-long : (c : tie.After-word)
-    → let w : Word = c .word .result .now in
-    length (take (length w - 1) (drop 1 w)) ≤ 16
+abbrev left-of : tie.After-word → Word
+left-of c = let w : Word = c .word .result .now in take (length w - 1) (drop 1 w)
+
+left-long : (c : tie.After-word) → length (left-of c) ≤ 16
 left-long c = simp length-take (omega (arith, long c .1))
 
 head-is : (c : tie.After-wide) → c .wide .result ≡ getD (key-of (c .before .before)) 0 0
@@ -40,7 +42,7 @@ returns c =
     let wide = c .before .before in
     let a = wide .before .before .before .before .before .args in
     gathers-as gathers-none
-    (return-other (a .first .now) (a .second .now) (a .x) (a .q) (markOf (key-of (wide .before .before)))
+    (return-other (a .first .now) (a .second .now) (a .at .row) (a .at .state) (markOf (key-of (wide .before .before)))
     (λ e. omega (arith, head-is wide, c .before .row-marker .ensures, c .if1 .taken)))
 
 sub-left : tie.Need-sub-left
@@ -52,19 +54,35 @@ part-left-start c = omega (arith, long (c .before .before .before .before) .0)
 copy-requires : tie.Need-copy-requires
 copy-requires c κs = omega (arith, left-long (c .before .before .before .before .before .before))
 
-read-row-requires : tie.Need-read-row-requires
-read-row-requires c κs =
-    let goal = c .before .before .before .before .before in
+row-word-requires : tie.Need-row-word-requires
+row-word-requires c κs =
+    let at = c .before .before .before .before .before .before .before .before .before .before .before .pre .0 in
+    good-word _ _ (at .small .hops .first) (at .row)
+
+read-requires : tie.Need-read-requires
+read-requires c κs =
+    let word = c .before .before in
+    let goal = word .before in
     let key = goal .before .before .before .before .before .before .before .before in
     let start = key .before .before .before in
+    let a = start .args in
     let pre = start .pre in (
-      (pre .0 .0, omega (arith, left-long key)),
-      (pre .1 .0 .numbered, (rw (goal .close-goal .ensures) (suited-close (pre .0 .0) _ _), pre .1 .1)),
+      row-reads (a .first .now) (a .second .now) (a .at .row) _ (word .row-word .ensures) _ _ (pre .0) (left-long key),
+      (
+        rw (goal .close-goal .ensures) tt,
+        (
+          rw (goal .close-goal .ensures)
+              (row-suited (a .first .now) (a .second .now) (a .at .row) _ (word .row-word .ensures) _
+              (length (left-of key)) (goal .before .copy .last .0) (suited-close (pre .0) _ _)),
+          pre .1 .1,
+        ),
+      ),
     )
 
 returns-2 : tie.Need-returns-2
 returns-2 c =
-    let goal = c .before .before .before .before .before .before in
+    let word = c .before .before .before in
+    let goal = word .before in
     let copied = goal .before in
     let same = copied .before .before .before in
     let wide = same .before .before in
@@ -73,11 +91,13 @@ returns-2 c =
     let a = start .args in
     let pre = start .pre in
     let left-is = ap (λ (w : Word). take (length w - 1) (drop 1 w)) (key .word .ensures) in
-    gathers-as (c .read-row .ensures)
-    (return-same (pre .1 .0) (a .x) (a .q) (pre .0 .1)
+    gathers-as (c .read .ensures .0)
+    (row-found (a .first .now) (a .second .now) (a .at .row) _ (word .row-word .ensures) _
+    (length (left-of key)) (copied .copy .last .0) _ _
+    ∙ return-same (pre .1 .0 .all) (a .at .row) (a .at .state) (pre .1 .0 .within)
     (omega (arith, head-is wide, same .before .row-marker .ensures, same .if1 .left))
     (goal .close-goal .ensures)
-    (laid (key-of key) (a .stack .now) left-is (copied .copy .ensures)))
+    (laid (key-of key) (a .tape .now) left-is (copied .copy .ensures)) _)
 
 pub return-row-spec : {M : Type 1} → statement M
 return-row-spec =
@@ -94,5 +114,6 @@ return-row-spec =
     copy-requires
     (λ c. search needs)
     (λ c κs. search needs)
-    read-row-requires
+    row-word-requires
+    read-requires
     returns-2)

@@ -11,11 +11,10 @@ use Rattle.joiner.proofs.hops.long_rows.Statement.{statement}
 use Rattle.joiner.proofs.hops.long_rows.Tie as tie
 
 abbrev Inv-loop : tie.InvT-loop
-Inv-loop arena starts order count i₀ i =
-    (i ≤ count) × ((k : ℕ) → k < i → length (wordAt arena starts order k) ≤ 259)
+Inv-loop rows count i₀ i = (i ≤ count) × ((k : ℕ) → k < i → length (wordAt rows k) ≤ 259)
 
 abbrev μ-loop : tie.MeasureT-loop
-μ-loop arena starts order count i₀ i = count - i
+μ-loop rows count i₀ i = count - i
 
 loop-holds : tie.Need-loop-holds Inv-loop μ-loop
 loop-holds c = (omega arith, λ k lt. absurd (omega arith))

@@ -2,22 +2,24 @@
 -- and a reading that goes on has a branch for each row of the word's first byte, so that the word gets shorter.
 -- Assumes nothing.
 use native.Mathlib.Omega.{arith}
-use mathlib.Core.Path.{_≡_, sym, ap}
-use mathlib.Core.List.{List, [], _∷_}
+use mathlib.Core.Path.{_≡_, sym, _∙_, ap}
+use mathlib.Core.List.{List, [], _∷_, reverse}
 use lib.ListN.{length, getD, take, drop}
 use lib.Seq.{length-take-le}
+use Rattle.shelf.proofs.Rooms.{part-slice}
 use Rattle.words.specs.Words.{Word}
 use Rattle.words.proofs.Exact.{denied, granted}
-use Rattle.meaning.specs.Runs.{Config}
-use Rattle.meaning.specs.Joining.{taken}
+use Rattle.meaning.specs.Runs.{Config, config}
 use Rattle.table.specs.File.{rowCount, rowStart, rowAt}
 use Rattle.table.specs.Calls.{meant}
 use Rattle.table.proofs.Symbols.{none-behind}
-use Rattle.shelf.specs.Shelved.{wordsOf, Gathers}
+use Rattle.shelf.specs.Shelved.{Gathers}
 use Rattle.shelf.proofs.Laws.{gathers-none, gathers-still, gathers-as}
-use Rattle.joiner.specs.Reading.{configOf, Fits, Untouched, findings, findingsOf}
-use Rattle.joiner.proofs.Moves.{taken-none, moved, height-near, untouched, untouched-self, untouched-both}
-use Rattle.joiner.proofs.Moves.{untouched-config}
+use Rattle.joiner.specs.Reading.{stackRoom, configOf, goesOn, marksOf, keysOf, Fits, Untouched, findings}
+use Rattle.joiner.specs.Reading.{findingsOf}
+use Rattle.joiner.specs.declared.reading.Cursor.{Cursor}
+use Rattle.joiner.proofs.Moves.{taken-none, moved, height-near, untouched-self, untouched-both, same-config}
+use Rattle.joiner.proofs.Moves.{put-back}
 use Rattle.joiner.proofs.Passing.{Passing, passing-ready, passing-next}
 use Rattle.joiner.proofs.Findings.{findings-end, findings-one, suited-end, suited-from, suited-row, by-class}
 use Rattle.joiner.proofs.Findings.{byRow, rows-start, rows-end, word-first}
@@ -52,33 +54,33 @@ use Rattle.joiner.proofs.reading.+branch+read+read_on.{statement}
 use Rattle.joiner.proofs.reading.+branch+read+read_on.Tie.{close}
 
 -- what is left of the word, three times: a reading, its going on and a branch come one after the other
-abbrev μ-branch : Measures 10 branch-kinds.ps ℕ
-μ-branch κs a = 3 * length (a .1 .1 .1 .0 .now) + 3
+abbrev μ-branch : Measures 5 branch-kinds.ps ℕ
+μ-branch κs a = 3 * length (a .1 .0 .now) + 3
 
-abbrev μ-read : Measures 10 read-kinds.ps ℕ
+abbrev μ-read : Measures 5 read-kinds.ps ℕ
 μ-read κs a = 3 * length (a .1 .0 .now) + 2
 
-abbrev μ-read-on : Measures 10 on-kinds.ps ℕ
+abbrev μ-read-on : Measures 5 on-kinds.ps ℕ
 μ-read-on κs a = 3 * length (a .1 .0 .now) + 1
 
 -- what each is given at the measure t, and what a call of it asks below t
-abbrev branch-at : ℕ → In 10 branch-kinds.ps
-branch-at t = and 10 branch-kinds.ps (is 10 branch-kinds.ps μ-branch t) branch.Pre
+abbrev branch-at : ℕ → In 5 branch-kinds.ps
+branch-at t = and 5 branch-kinds.ps (is 5 branch-kinds.ps μ-branch t) branch.Pre
 
-abbrev branch-below : ℕ → In 10 branch-kinds.ps
-branch-below t = and 10 branch-kinds.ps (falls 10 branch-kinds.ps _<_ μ-branch t) branch.Pre
+abbrev branch-below : ℕ → In 5 branch-kinds.ps
+branch-below t = and 5 branch-kinds.ps (falls 5 branch-kinds.ps _<_ μ-branch t) branch.Pre
 
-abbrev read-at : ℕ → In 10 read-kinds.ps
-read-at t = and 10 read-kinds.ps (is 10 read-kinds.ps μ-read t) read.Pre
+abbrev read-at : ℕ → In 5 read-kinds.ps
+read-at t = and 5 read-kinds.ps (is 5 read-kinds.ps μ-read t) read.Pre
 
-abbrev read-below : ℕ → In 10 read-kinds.ps
-read-below t = and 10 read-kinds.ps (falls 10 read-kinds.ps _<_ μ-read t) read.Pre
+abbrev read-below : ℕ → In 5 read-kinds.ps
+read-below t = and 5 read-kinds.ps (falls 5 read-kinds.ps _<_ μ-read t) read.Pre
 
-abbrev on-at : ℕ → In 10 on-kinds.ps
-on-at t = and 10 on-kinds.ps (is 10 on-kinds.ps μ-read-on t) on.Pre
+abbrev on-at : ℕ → In 5 on-kinds.ps
+on-at t = and 5 on-kinds.ps (is 5 on-kinds.ps μ-read-on t) on.Pre
 
-abbrev on-below : ℕ → In 10 on-kinds.ps
-on-below t = and 10 on-kinds.ps (falls 10 on-kinds.ps _<_ μ-read-on t) on.Pre
+abbrev on-below : ℕ → In 5 on-kinds.ps
+on-below t = and 5 on-kinds.ps (falls 5 on-kinds.ps _<_ μ-read-on t) on.Pre
 
 -- what the callees ask and say, at the measure t
 abbrev branch-calls : ℕ → branch-lts.Claims
@@ -123,16 +125,12 @@ on-calls t = (
 )
 
 abbrev Inv-loop : on-lts.InvT-loop
-Inv-loop second word state stack₀ height out₀ long goal keys edges turns marks arena₀ starts₀ order₀ symbol rest class n
-    made₀ r₀ stack out arena starts order made r =
-    (r₀ ≤ r) × (r ≤ n) × Untouched stack₀ out₀ long stack out
-    × Passing (byRow second (wordsOf keys edges turns marks) goal symbol rest (configOf state stack₀ height out₀ long))
-    arena₀ starts₀ order₀ made₀ r arena starts order made
+Inv-loop second word cursor goal marks rows₀ tape₀ symbol rest class n made₀ row₀ rows tape made row =
+    (row₀ ≤ row) × (row ≤ n) × Untouched tape₀ (cursor .end) tape
+    × Passing (byRow second (marksOf marks goal) goal symbol rest (configOf cursor tape₀)) rows₀ made₀ row rows made
 
 abbrev μ-loop : on-lts.MeasureT-loop
-μ-loop second word state stack₀ height out₀ long goal keys edges turns marks arena₀ starts₀ order₀ symbol rest class n
-    made₀ r₀ stack out arena starts order made r =
-    n - r
+μ-loop second word cursor goal marks rows₀ tape₀ symbol rest class n made₀ row₀ rows tape made row = n - row
 
 -- where it is known whether the row fits: the arguments, and the marks
 module _ (t : ℕ) (c : branch-lts.After-fits2 (branch-calls t) (branch-at t) branch.Post) where
@@ -140,31 +138,35 @@ module _ (t : ℕ) (c : branch-lts.After-fits2 (branch-calls t) (branch-at t) br
   branch-start = c .before .before .before .before .before .before
 
   abbrev branch-marks : List Word
-  branch-marks =
-      let a = branch-start .args in
-      wordsOf (a .keys .now) (a .edges .now) (a .turns .now) (a .marks)
+  branch-marks = let a = branch-start .args in marksOf (a .marks .now) (a .goal)
 
--- where it fits, and the configuration that follows
+-- where it fits, the cursor and the configuration that follow
 branch-fits : (t : ℕ) (c : branch-lts.Else2 (branch-calls t) (branch-at t) branch.Post)
     → let a = branch-start t (c .before) .args in
-    Fits (meant (a .class)) (rowAt (a .second .now) (a .r)) (a .state) (a .stack .now) (a .height)
+    Fits (meant (a .turn .class)) (rowAt (a .second .now) (a .turn .row)) (a .turn .cursor) (a .tape .now)
 branch-fits t c = granted (c .before .fits2 .ensures .exact) (c .if2 .left)
+
+abbrev branch-next : (t : ℕ) → branch-lts.After-height-after (branch-calls t) (branch-at t) branch.Post → Cursor
+branch-next t c =
+    record {
+      state = c .before .row-to .result;
+      height = c .height-after .result;
+      end = c .before .before .append .result;
+    }
 
 branch-moved : (t : ℕ) (c : branch-lts.After-height-after (branch-calls t) (branch-at t) branch.Post)
     → let append = c .before .before in
-    let exchange = append .before .before in
-    let a = branch-start t (exchange .before .before .before .before) .args in
-    taken (meant (a .class)) (rowAt (a .second .now) (a .r))
-    (configOf (a .state) (a .stack .now) (a .height) (a .out .now) (a .long))
-    ≡ configOf (c .before .row-to .result) (exchange .exchange .last .0) (c .height-after .result)
-    (append .append .last .1 .1 .0) (append .append .result)
-    ∷ []
+    let a = branch-start t (append .before .before .before .before .before .before) .args in
+    goesOn (a .second .now) (a .turn) (a .tape .now)
+    ≡ configOf (branch-next t c) (append .append .last .1 .1 .0) ∷ []
 branch-moved t c =
     let append = c .before .before in
     let exchange = append .before .before in
-    moved (branch-fits t (exchange .before .before .before)) (exchange .exchange .ensures)
-    (exchange .before .row-marker .ensures) (c .before .row-to .ensures) (c .height-after .ensures)
-    (append .append .ensures)
+    let else = exchange .before .before .before in
+    let reads = branch-start t (else .before) .pre .1 .0 in
+    moved (branch-fits t else) (exchange .exchange .ensures) (exchange .before .row-marker .ensures)
+    (c .before .row-to .ensures) (c .height-after .ensures) (append .append .ensures) (omega (arith, reads .high))
+    (reads .behind)
 
 branch-full-requires : (t : ℕ) → branch-lts.Need-full-requires (branch-calls t) (branch-at t) branch.Post
 branch-full-requires t c κs = tt
@@ -175,13 +177,13 @@ branch-returns t c = (gathers-still _ (c .before .full .ensures .1 (c .if1 .take
 branch-fits-requires : (t : ℕ) → branch-lts.Need-fits-requires (branch-calls t) (branch-at t) branch.Post
 branch-fits-requires t c κs =
     let pre = c .before .before .before .before .before .pre .1 .0 in
-    (pre .0 .good, pre .1, omega (arith, pre .0 .high))
+    (pre .good, pre .row, omega (arith, pre .high))
 
 branch-returns-2 : (t : ℕ) → branch-lts.Need-returns-2 (branch-calls t) (branch-at t) branch.Post
 branch-returns-2 t c =
     let a = branch-start t (c .before) .args in
     let told = c .before .fits2 .ensures in
-    let none = taken-none (a .out .now) (a .long) (told .within) (denied (told .exact) (c .if2 .taken)) in (
+    let none = taken-none (told .within) (denied (told .exact) (c .if2 .taken)) in (
       gathers-as gathers-none
           (ap (findingsOf (a .second .now) (branch-marks t (c .before)) (a .goal) (a .rest .now)) (sym none)),
       untouched-self,
@@ -190,49 +192,49 @@ branch-returns-2 t c =
 branch-row-marker-requires : (t : ℕ) → branch-lts.Need-row-marker-requires (branch-calls t) (branch-at t) branch.Post
 branch-row-marker-requires t c κs =
     let pre = branch-start t (c .before .before) .pre .1 .0 in
-    (pre .0 .good, pre .1)
+    (pre .good, pre .row)
 
 branch-cast-exchange : (t : ℕ) → branch-lts.Need-cast-exchange (branch-calls t) (branch-at t) branch.Post
 branch-cast-exchange t c =
     let known = c .before .before .before .before .before .before .before .before in
-    let small = known .shared-slice-known .given (rowStart (known .before .args .r) + 3) in
+    let small = known .shared-slice-known .given (rowStart (known .before .args .turn .row) + 3) in
     omega (arith, c .row-marker .ensures)
 
 branch-exchange-requires : (t : ℕ) → branch-lts.Need-exchange-requires (branch-calls t) (branch-at t) branch.Post
-branch-exchange-requires t c κs =
-    omega (arith, branch-start t (c .before .before .before) .pre .1 .0 .0 .high)
+branch-exchange-requires t c κs = omega (arith, branch-start t (c .before .before .before) .pre .1 .0 .high)
 
 branch-append-requires : (t : ℕ) → branch-lts.Need-append-requires (branch-calls t) (branch-at t) branch.Post
 branch-append-requires t c κs =
     let pre = branch-start t (c .before .before .before .before .before) .pre .1 .0 in
-    (pre .0 .good, pre .1, omega (arith, pre .0 .room))
+    (pre .good, pre .row, omega (arith, pre .room))
 
 branch-row-to-requires : (t : ℕ) → branch-lts.Need-row-to-requires (branch-calls t) (branch-at t) branch.Post
 branch-row-to-requires t c κs =
     let pre = branch-start t (c .before .before .before .before .before .before) .pre .1 .0 in
-    (pre .0 .good, pre .1)
+    (pre .good, pre .row)
 
 branch-height-after-requires : (t : ℕ)
     → branch-lts.Need-height-after-requires (branch-calls t) (branch-at t) branch.Post
 branch-height-after-requires t c κs =
     let else = c .before .before .before .before .before .before in
-    (omega (arith, branch-start t (else .before) .pre .1 .0 .0 .high), λ e. branch-fits t else .top e .0)
+    (omega (arith, branch-start t (else .before) .pre .1 .0 .high), λ e. branch-fits t else .top e .0)
 
 branch-read-requires : (t : ℕ) → branch-lts.Need-read-requires (branch-calls t) (branch-at t) branch.Post
 branch-read-requires t c κs =
-    let step = c .before .before .before .before .before in
+    let step = c .before .before in
     let else = step .before .before .before .before .before .before .before in
     let start = branch-start t (else .before) in
     let a = start .args in
     let pre = start .pre .1 in
-    let reads = pre .0 .0 in
+    let reads = pre .0 in
     let appended = step .before .before .append .ensures in
-    let near = height-near (meant (a .class)) (a .height) in (
+    let near = height-near (meant (a .turn .class)) (a .turn .cursor .height) in (
       omega (arith, start .pre .0),
       (
         record {
           good = reads .good;
           high = omega (arith, reads .high, step .height-after .ensures);
+          behind = omega (arith, reads .behind, appended .more);
           room = omega (arith, reads .room, appended .more, appended .short);
         },
         (
@@ -248,21 +250,23 @@ branch-read-requires t c κs =
 
 branch-exchange-requires-2 : (t : ℕ) → branch-lts.Need-exchange-requires-2 (branch-calls t) (branch-at t) branch.Post
 branch-exchange-requires-2 t c κs =
-    let step = c .before .before .before .before .before .before .before in
+    let step = c .before .before .before .before in
     let else = step .before .before .before .before .before .before .before in
-    omega (arith, branch-start t (else .before) .pre .1 .0 .0 .high)
+    omega (arith, branch-start t (else .before) .pre .1 .0 .high)
 
 branch-returns-3 : (t : ℕ) → branch-lts.Need-returns-3 (branch-calls t) (branch-at t) branch.Post
 branch-returns-3 t c =
     let read = c .before .before in
-    let step = read .before .before .before .before .before .before in
+    let step = read .before .before .before in
     let else = step .before .before .before .before .before .before .before in
-    let a = branch-start t (else .before) .args in
-    let marks = branch-marks t (else .before) in (
+    let start = branch-start t (else .before) in
+    let a = start .args in
+    let reads = start .pre .1 .0 in (
       gathers-as (read .read .ensures .0)
-          (findings-one (a .second .now) marks (a .goal) (a .rest .now) (branch-moved t step)),
-      untouched (step .before .before .before .before .exchange .ensures) (step .before .before .append .ensures)
-          (read .read .ensures .1) (c .exchange2 .ensures),
+          (findings-one (a .second .now) (branch-marks t (else .before)) (a .goal) (a .rest .now)
+          (branch-moved t step)),
+      put-back (step .before .before .before .before .exchange .ensures) (step .before .before .append .ensures)
+          (read .read .ensures .1) (c .exchange2 .ensures) (omega (arith, reads .high, reads .behind)),
     )
 
 -- the arguments of a reading, the marks, and where it starts from
@@ -271,56 +275,74 @@ module _ (t : ℕ) (c : read-lts.After-shared-slice-known2 (read-calls t) (read-
   read-start = c .before .before
 
   abbrev read-marks : List Word
-  read-marks =
-      let a = read-start .args in
-      wordsOf (a .keys .now) (a .edges .now) (a .turns .now) (a .marks)
+  read-marks = let a = read-start .args in marksOf (a .marks .now) (a .goal)
 
   abbrev read-from : Config
-  read-from =
+  read-from = let a = read-start .args in configOf (a .cursor) (a .tape .now)
+
+  -- as it stands on the tape, part by part
+  read-end : let a = read-start .args in
+      config (a .cursor .state) (reverse (take (a .cursor .height) (a .tape .now)))
+      (take (a .cursor .end - stackRoom) (drop stackRoom (a .tape .now)))
+      ≡ read-from
+  read-end =
       let a = read-start .args in
-      configOf (a .state) (a .stack .now) (a .height) (a .out .now) (a .long)
+      ap (config (a .cursor .state) (reverse (take (a .cursor .height) (a .tape .now))))
+      (part-slice stackRoom (a .cursor .end) (a .tape .now))
 
-read-slice-aggregate-found : (t : ℕ)
-    → read-lts.Need-slice-aggregate-found (read-calls t) (read-at t) read.Post
+-- where its parts are taken from the tape
+read-bounds : (t : ℕ) (c : read-lts.After-found-arg (read-calls t) (read-at t) read.Post)
+    → let cursor = c .before .before .before .before .before .before .args .cursor in
+    (cursor .height ≤ 32) × (32 ≤ cursor .end) × (cursor .end ≤ 4128)
+read-bounds t c =
+    let reads = c .before .before .before .before .before .before .pre .1 .0 in
+    (omega (arith, reads .high), reads .behind, omega (arith, reads .room))
+
+read-slice-aggregate-found : (t : ℕ) → read-lts.Need-slice-aggregate-found (read-calls t) (read-at t) read.Post
 read-slice-aggregate-found t c =
-    let start = read-start t (c .before .before .before .before .before .before) in
-    sym (length-take-le (start .args .height) (start .args .stack .now) (omega (arith, start .pre .1 .0 .high)))
+    let a = c .before .before .before .before .before .before .args in
+    sym (length-take-le (a .cursor .height) (a .tape .now) (omega (arith, read-bounds t c)))
 
-read-slice-aggregate-found-2 : (t : ℕ)
-    → read-lts.Need-slice-aggregate-found-2 (read-calls t) (read-at t) read.Post
-read-slice-aggregate-found-2 t c =
-    let start = read-start t (c .before .before .before .before .before .before .before) in
-    sym (length-take-le (start .args .long) (start .args .out .now) (omega (arith, start .pre .1 .0 .room)))
+read-sub-found : (t : ℕ) → read-lts.Need-sub-found (read-calls t) (read-at t) read.Post
+read-sub-found t c = omega (arith, read-bounds t c)
+
+read-part-found-start : (t : ℕ) → read-lts.Need-part-found-start (read-calls t) (read-at t) read.Post
+read-part-found-start t c = omega arith
+
+read-part-found-end : (t : ℕ) → read-lts.Need-part-found-end (read-calls t) (read-at t) read.Post
+read-part-found-end t c = omega (arith, read-bounds t c)
 
 read-found-requires : (t : ℕ) → read-lts.Need-found-requires (read-calls t) (read-at t) read.Post
 read-found-requires t c κs =
-    let end = c .before .before .before .before .before .before .before .before .before in
+    let end = c .before .before .before .before .before in
     let known = end .before in
     let start = read-start t known in
     let pre = start .pre .1 .1 in
     let a = start .args in (
       pre .0,
       (
-        suited-end (a .second .now) (read-marks t known) (a .goal) (a .word .now) (read-from t known)
-            (end .if1 .taken) (pre .1 .0),
+        rw (read-end t known)
+            (suited-end (a .second .now) (read-marks t known) (a .goal) (a .word .now) (read-from t known)
+            (end .if1 .taken) (pre .1 .0)),
         pre .1 .1,
       ),
     )
 
 read-returns : (t : ℕ) → read-lts.Need-returns (read-calls t) (read-at t) read.Post
 read-returns t c =
-    let end = c .before .before .before .before .before .before .before .before .before .before in
+    let end = c .before .before .before .before .before .before in
     let known = end .before in
     let a = read-start t known .args in (
       gathers-as (c .found .ensures)
-          (findings-end (a .second .now) (read-marks t known) (a .goal) (a .word .now) (read-from t known)
+          (ap (keysOf (read-marks t known) (a .goal)) (read-end t known)
+          ∙ findings-end (a .second .now) (read-marks t known) (a .goal) (a .word .now) (read-from t known)
           (end .if1 .taken)),
       untouched-self,
     )
 
 read-read-on-requires : (t : ℕ) → read-lts.Need-read-on-requires (read-calls t) (read-at t) read.Post
 read-read-on-requires t c κs =
-    let else = c .before .before .before .before .before in
+    let else = c .before .before in
     let start = read-start t (else .before) in
     let pre = start .pre .1 in
     (omega (arith, start .pre .0), ((pre .0, omega (arith, else .if1 .left)), pre .1))
@@ -330,19 +352,15 @@ read-returns-2 t c = c .read-on .ensures
 
 -- the same of one that goes on, and the word by its first byte
 module _ (t : ℕ)
-    (c : on-lts.After-shared-slice-known2 (on-calls t) (on-at t) on.Post Inv-loop μ-loop) where
+    (c : on-lts.After-shared-slice-known3 (on-calls t) (on-at t) on.Post Inv-loop μ-loop) where
   abbrev on-start : on-lts.Start (on-calls t) (on-at t) on.Post Inv-loop μ-loop
-  on-start = c .before .before
+  on-start = c .before .before .before
 
   abbrev on-marks : List Word
-  on-marks =
-      let a = on-start .args in
-      wordsOf (a .keys .now) (a .edges .now) (a .turns .now) (a .marks)
+  on-marks = let a = on-start .args in marksOf (a .marks .now) (a .goal)
 
   abbrev on-from : Config
-  on-from =
-      let a = on-start .args in
-      configOf (a .state) (a .stack .now) (a .height) (a .out .now) (a .long)
+  on-from = let a = on-start .args in configOf (a .cursor) (a .tape .now)
 
   abbrev on-symbol : ℕ
   on-symbol = getD (on-start .args .word .now) 0 0
@@ -352,21 +370,29 @@ module _ (t : ℕ)
 
 -- in the loop the word has a first byte; a row there, and one that has the symbol
 module _ (t : ℕ) (c : on-lts.At-loop (on-calls t) (on-at t) on.Post Inv-loop μ-loop) where
-  abbrev loop-known : on-lts.After-shared-slice-known2 (on-calls t) (on-at t) on.Post Inv-loop μ-loop
-  loop-known = c .before .before .before .before .before .before
+  abbrev loop-known : on-lts.After-shared-slice-known3 (on-calls t) (on-at t) on.Post Inv-loop μ-loop
+  loop-known = c .before .before .before .before .before
 
   loop-word : on-start t loop-known .args .word .now ≡ on-symbol t loop-known ∷ on-rest t loop-known
   loop-word =
       word-first (on-start t loop-known .args .word .now) (on-start t loop-known .pre .1 .0 .1)
 
+-- a turn starts from the configuration that the loop started from
+on-config : (t : ℕ) (c : on-lts.At-loop (on-calls t) (on-at t) on.Post Inv-loop μ-loop)
+    → configOf (on-start t (loop-known t c) .args .cursor) (c .loop .tape) ≡ on-from t (loop-known t c)
+on-config t c =
+    let start = on-start t (loop-known t c) in
+    let reads = start .pre .1 .0 .0 in
+    same-config (start .args .cursor) (omega (arith, reads .high, reads .behind)) (c .loop .inv .2)
+
 on-within : (t : ℕ) (c : on-lts.In-loop (on-calls t) (on-at t) on.Post Inv-loop μ-loop)
-    → c .before .loop .r < rowCount (on-start t (loop-known t (c .before)) .args .second .now)
+    → c .before .loop .row < rowCount (on-start t (loop-known t (c .before)) .args .second .now)
 on-within t c = omega (arith, c .before .before .before .row-count .ensures)
 
 on-has : (t : ℕ) (c : on-lts.Else1 (on-calls t) (on-at t) on.Post Inv-loop μ-loop)
     → let at-loop = c .before .before .before .before in
     let known = loop-known t at-loop in
-    rowAt (on-start t known .args .second .now) (at-loop .loop .r) .symbol ≡ on-symbol t known
+    rowAt (on-start t known .args .second .now) (at-loop .loop .row) .symbol ≡ on-symbol t known
 on-has t c = omega (arith, c .before .wide .ensures, c .before .before .row-symbol .ensures)
 
 on-shared-slice-read-symbol : (t : ℕ)
@@ -383,19 +409,19 @@ on-part-rest-end : (t : ℕ) → on-lts.Need-part-rest-end (on-calls t) (on-at t
 on-part-rest-end t c = omega arith
 
 on-class-of-requires : (t : ℕ) → on-lts.Need-class-of-requires (on-calls t) (on-at t) on.Post Inv-loop μ-loop
-on-class-of-requires t c κs = on-start t (c .before .before) .pre .1 .0 .0 .good
+on-class-of-requires t c κs = on-start t (c .before) .pre .1 .0 .0 .good
 
 on-row-count-requires : (t : ℕ)
     → on-lts.Need-row-count-requires (on-calls t) (on-at t) on.Post Inv-loop μ-loop
-on-row-count-requires t c κs = on-start t (c .before .before .before) .pre .1 .0 .0 .good
+on-row-count-requires t c κs = on-start t (c .before .before) .pre .1 .0 .0 .good
 
 on-first-row-requires : (t : ℕ)
     → on-lts.Need-first-row-requires (on-calls t) (on-at t) on.Post Inv-loop μ-loop
-on-first-row-requires t c κs = on-start t (c .before .before .before .before) .pre .1 .0 .0 .good
+on-first-row-requires t c κs = on-start t (c .before .before .before) .pre .1 .0 .0 .good
 
 on-loop-holds : (t : ℕ) → on-lts.Need-loop-holds (on-calls t) (on-at t) on.Post Inv-loop μ-loop
 on-loop-holds t c =
-    let known = c .before .before .before .before .before in
+    let known = c .before .before .before .before in
     let a = on-start t known .args in
     let first = c .first-row .ensures in (
       omega arith,
@@ -408,7 +434,7 @@ on-loop-holds t c =
 on-row-symbol-requires : (t : ℕ)
     → on-lts.Need-row-symbol-requires (on-calls t) (on-at t) on.Post Inv-loop μ-loop
 on-row-symbol-requires t c κs =
-    (on-start t (c .before .before .before .before .before .before .before) .pre .1 .0 .0 .good, on-within t c)
+    (on-start t (loop-known t (c .before)) .pre .1 .0 .0 .good, on-within t c)
 
 on-wide-requires : (t : ℕ) → on-lts.Need-wide-requires (on-calls t) (on-at t) on.Post Inv-loop μ-loop
 on-wide-requires t c κs = search needs
@@ -418,11 +444,10 @@ on-stopped : (t : ℕ) (c : on-lts.In-loop (on-calls t) (on-at t) on.Post Inv-lo
     → let at-loop = c .before in
     let known = loop-known t at-loop in
     let a = on-start t known .args in
-    let x = rowAt (a .second .now) (at-loop .loop .r) in
-    (x .symbol ≡ on-symbol t known → x .from ≡ a .state → ⊥)
+    let x = rowAt (a .second .now) (at-loop .loop .row) in
+    (x .symbol ≡ on-symbol t known → x .from ≡ a .cursor .state → ⊥)
     → Gathers (findings (a .second .now) (on-marks t known) (a .goal) (a .word .now) (on-from t known))
-    (a .arena .now) (a .starts .now) (a .order .now) (a .shelf)
-    (at-loop .loop .made) (at-loop .loop .arena) (at-loop .loop .starts) (at-loop .loop .order)
+    (a .rows .now) (a .shelf) (at-loop .loop .made) (at-loop .loop .rows)
 on-stopped t c other =
     let at-loop = c .before in
     let known = loop-known t at-loop in
@@ -449,14 +474,14 @@ on-row-from-requires t c κs =
 
 on-returns-2 : (t : ℕ) → on-lts.Need-returns-2 (on-calls t) (on-at t) on.Post Inv-loop μ-loop
 on-returns-2 t c =
-    let in-loop = c .before .before .before .before .before in (
-      on-stopped t in-loop (λ s f. omega (arith, c .before .row-from .ensures)),
+    let in-loop = c .before .before .before .before .before .before in (
+      on-stopped t in-loop (λ s f. omega (arith, c .before .before .row-from .ensures)),
       in-loop .before .loop .inv .2,
     )
 
 on-branch-requires : (t : ℕ) → on-lts.Need-branch-requires (on-calls t) (on-at t) on.Post Inv-loop μ-loop
 on-branch-requires t c κs =
-    let else = c .before .before .before .before .before .before .before in
+    let else = c .before .before .before .before .before in
     let at-loop = else .before .before .before .before in
     let known = loop-known t at-loop in
     let start = on-start t known in
@@ -467,35 +492,34 @@ on-branch-requires t c κs =
     let within = on-within t (else .before .before .before) in (
       omega (arith, start .pre .0),
       (
-        (
-          record {
-            good = pre .0 .0 .good;
-            high = omega (arith, pre .0 .0 .high);
-            room = omega (arith, pre .0 .0 .room);
-          },
-          within,
-        ),
+        record {
+          good = pre .0 .0 .good;
+          row = within;
+          high = omega (arith, pre .0 .0 .high);
+          behind = pre .0 .0 .behind;
+          room = omega (arith, pre .0 .0 .room);
+        },
         (
           pre .1 .0,
           (
             suited-row (a .second .now) (on-marks t known) (a .goal) (on-symbol t known) (on-rest t known)
-                (on-from t known) word (at-loop .loop .r) within (at-loop .before .before .before .class-of .ensures)
-                (on-has t else) (untouched-config (a .state) (a .height) (at-loop .loop .inv .2)) (pre .1 .1 .0),
+                (on-from t known) word (at-loop .loop .row) within (at-loop .before .before .before .class-of .ensures)
+                (on-has t else) (on-config t at-loop) (pre .1 .1 .0),
             passing-ready (at-loop .loop .inv .3) (pre .1 .1 .1),
           ),
         ),
       ),
     )
 
-on-add-r : (t : ℕ) → on-lts.Need-add-r (on-calls t) (on-at t) on.Post Inv-loop μ-loop
-on-add-r t c = search needs
+on-add-row : (t : ℕ) → on-lts.Need-add-row (on-calls t) (on-at t) on.Post Inv-loop μ-loop
+on-add-row t c = search needs
 
 on-loop-less : (t : ℕ) → on-lts.Need-loop-less (on-calls t) (on-at t) on.Post Inv-loop μ-loop
 on-loop-less t c = search needs
 
 on-loop-again : (t : ℕ) → on-lts.Need-loop-again (on-calls t) (on-at t) on.Post Inv-loop μ-loop
 on-loop-again t c =
-    let else = c .before .before .before .before .before .before .before .before in
+    let else = c .before .before .before .before .before .before in
     let at-loop = else .before .before .before .before in
     let known = loop-known t at-loop in
     let a = on-start t known .args in (
@@ -505,8 +529,8 @@ on-loop-again t c =
       passing-next (at-loop .loop .inv .3)
           (gathers-as (c .branch .ensures .0)
           (by-class (a .second .now) (on-marks t known) (a .goal) (on-symbol t known) (on-rest t known)
-          (on-from t known) (at-loop .loop .r) (at-loop .before .before .before .class-of .ensures) (on-has t else)
-          (untouched-config (a .state) (a .height) (at-loop .loop .inv .2)))),
+          (on-from t known) (at-loop .loop .row) (at-loop .before .before .before .class-of .ensures) (on-has t else)
+          (on-config t at-loop))),
     )
 
 on-returns-3 : (t : ℕ) → on-lts.Need-returns-3 (on-calls t) (on-at t) on.Post Inv-loop μ-loop
@@ -540,7 +564,9 @@ pub +branch+read+read-on-spec : {M : Type 1} → statement M
     (branch-returns-3 t))
     (λ t. read-lts.spec (read-calls t) (read-at t) read.Post
     (read-slice-aggregate-found t)
-    (read-slice-aggregate-found-2 t)
+    (read-sub-found t)
+    (read-part-found-start t)
+    (read-part-found-end t)
     (read-found-requires t)
     (read-returns t)
     (read-read-on-requires t)
@@ -560,7 +586,7 @@ pub +branch+read+read-on-spec : {M : Type 1} → statement M
     (on-row-from-requires t)
     (on-returns-2 t)
     (on-branch-requires t)
-    (on-add-r t)
+    (on-add-row t)
     (on-loop-less t)
     (on-loop-again t)
     (on-returns-3 t))

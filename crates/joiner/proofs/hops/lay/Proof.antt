@@ -1,4 +1,4 @@
--- `joiner::hops::on_rows` meets its contract. Assumes nothing.
+-- `joiner::hops::lay` meets its contract. Assumes nothing.
 use mathlib.Core.Path.{refl, sym, _∙_}
 use mathlib.Core.Bool.{false≢true}
 use Prim.Native.Nat.{_-_, _*_}
@@ -7,17 +7,19 @@ use Rattle.laying.specs.declared.Sizes.{Sizes}
 use Rattle.joiner.specs.Hopping.{LongKey}
 use Rattle.joiner.proofs.Hopped.{hopped-used, hopped-long, hopped-words, hopped-no-room, hopped-laying}
 use Rattle.joiner.proofs.Hopped.{hopped-taken}
+use Rattle.joiner.proofs.Told.{answered}
 use borrow.Author.Needs.{needs}
-use Rattle.joiner.proofs.hops.on_rows.Statement.{statement}
-use Rattle.joiner.proofs.hops.on_rows.Tie as tie
+use Rattle.joiner.proofs.hops.lay.Statement.{statement}
+use Rattle.joiner.proofs.hops.lay.Tie as tie
 
 long-rows-requires : tie.Need-long-rows-requires
 long-rows-requires c κs = c .before .before .before .pre .held .standing
 
 returns : tie.Need-returns
 returns c =
-    let asked = c .before in
-    hopped-long (asked .before .before .before .before .pre) _ (asked .long-rows .ensures .1 (c .if1 .taken))
+    let asked = c .before .before in
+    answered (c .refused .ensures)
+    (hopped-long (asked .before .before .before .before .pre) _ (asked .long-rows .ensures .1 (c .before .if1 .taken)))
 
 mul-words : tie.Need-mul-words
 mul-words c = omega (arith, c .before .before .before .before .before .pre .held .standing .few)
@@ -26,15 +28,15 @@ sub-words : tie.Need-sub-words
 sub-words c = omega (arith, hopped-used (c .before .before .before .before .before .pre))
 
 -- no key is long
-short : (c : tie.Else1) →
-    let a = c .before .before .before .before .before .args in
-    LongKey (a .arena .now) (a .starts .now) (a .order .now) (a .count) → ⊥
+short : (c : tie.Else1)
+    → let a = c .before .before .before .before .before .args in
+    LongKey (a .rows .now) (a .count) → ⊥
 short c k = false≢true (sym (c .if1 .left) ∙ c .before .long-rows .ensures .0 k)
 
 returns-2 : tie.Need-returns-2
 returns-2 c =
-    let start = c .before .before .before .before .before .before in
-    hopped-words (start .pre) _ (omega arith)
+    let start = c .before .before .before .before .before .before .before in
+    answered (c .refused2 .ensures) (hopped-words (start .pre) _ (omega arith))
 
 mul-if3 : tie.Need-mul-if3
 mul-if3 c = omega (arith, c .before .before .before .before .before .before .pre .held .standing .few)
@@ -47,9 +49,9 @@ add-if3-2 c = omega (arith, c .before .before .before .before .before .before .p
 
 returns-3 : tie.Need-returns-3
 returns-3 c =
-    let asked = c .before .before in
+    let asked = c .before .before .before in
     let start = asked .before .before .before .before .before in
-    hopped-no-room (start .pre) _ (short asked) (omega arith) (omega arith)
+    answered (c .refused3 .ensures) (hopped-no-room (start .pre) _ (short asked) (omega arith) (omega arith))
 
 write-requires : tie.Need-write-requires
 write-requires c κs =
@@ -67,18 +69,21 @@ returns-4 c =
     hopped-taken (start .pre) _ (short asked) (omega arith) (omega arith) sizes refl refl refl
     (written .write .ensures)
 
-pub on-rows-spec : {M : Type 1} → statement M
-on-rows-spec =
+pub lay-spec : {M : Type 1} → statement M
+lay-spec =
     tie.close
     (tie.spec
     long-rows-requires
+    (λ c κs. search needs)
     returns
     mul-words
     sub-words
+    (λ c κs. search needs)
     returns-2
     mul-if3
     add-if3
     add-if3-2
+    (λ c κs. search needs)
     returns-3
     write-requires
     (λ c. search needs)
