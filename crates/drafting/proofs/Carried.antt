@@ -2,19 +2,19 @@
 use mathlib.Core.Path.{_≡_, refl, sym, _∙_, ap}
 use mathlib.Core.Logic.{_⊎_, inl, inr}
 use mathlib.Core.List.{List, [], _∷_, _++_}
-use Prim.Native.Nat.{ℕ, _+_, _-_, _*_, _<_, _≤_}
+use Prim.Native.Nat.{ℕ, _+_, _-_, _<_, _≤_}
 use native.Mathlib.Nat.{add-zero}
 use native.Mathlib.Numerals.{add-one}
 use native.Mathlib.Omega.{arith}
-use lib.ListN.{length, take, drop, set, length-append, length-set, length-drop, List·getD-append}
+use lib.ListN.{length, take, drop, set, length-append, length-set, List·getD-append}
 use lib.Seq.{getD-append-add, getD-set-same, getD-set-other, length-take-le, take-suc, take-all, paste}
 use Rattle.words.specs.Words.{Word, Bytes}
 use Rattle.words.proofs.Pasted.{pasted}
-use Rattle.words.proofs.Lists.{below-or, byte-getD}
+use Rattle.words.proofs.Lists.{below-or}
 use Rattle.words.specs.LittleEndian.{byte}
 use Rattle.meaning.specs.Answers.{linksCap}
 use Rattle.standing.specs.Bytes.{linkStart, lengthStart}
-use Rattle.drafting.specs.Drafts.{whereStart, handedStart, slotStart, workSize, Moved, Rest, Wrote, Lifted, Lowered}
+use Rattle.drafting.specs.Drafts.{whereStart, slotStart, Moved, Rest, Wrote, Lifted, Lowered}
 use Rattle.drafting.specs.Drafts.{Written}
 use Rattle.drafting.proofs.Rooms.{piece-length, piece-byte, moved-self, moved-then, rest-self, rest-then}
 use Rattle.drafting.proofs.Rooms.{small-written}
@@ -154,7 +154,8 @@ lowering-none work first =
     }
 
 pub lowering-more : {work₀ work work′ : List ℕ} {first i : ℕ} (from : ℕ) → Lowering work₀ first i work
-    → from ≡ first + i → from < linksCap → Wrote work i work′ → Moved work from work′ i → Lowering work₀ first (i + 1) work′
+    → from ≡ first + i → from < linksCap → Wrote work i work′ → Moved work from work′ i
+    → Lowering work₀ first (i + 1) work′
 lowering-more {work₀} {work} {work′} {first} {i} from l there fits w m =
     record {
       rest = rest-then (l .rest) (w .rest);

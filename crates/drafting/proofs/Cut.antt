@@ -3,12 +3,11 @@
 use mathlib.Core.Path.{_≡_, refl, sym, _∙_, ap, subst}
 use mathlib.Core.Logic.{_⊎_, inl, inr}
 use mathlib.Core.List.{List, [], _∷_, map, map-map}
-use Prim.Native.Nat.{ℕ, zero, suc, _+_, _-_, _*_, _/_, _%_, _<_, _≤_}
-use native.Mathlib.Numerals.{add-one}
+use Prim.Native.Nat.{ℕ, zero, suc, _+_, _-_, _/_, _%_, _<_, _≤_}
 use native.Mathlib.Omega.{arith}
 use lib.ListN.{length, take, drop, length-append}
 use lib.Seq.{drop-drop, take-nil}
-use Rattle.words.specs.Lists.{_among_, upTo}
+use Rattle.words.specs.Lists.{upTo}
 use Rattle.words.specs.Words.{Word, Bytes}
 use Rattle.words.specs.Order.{Less}
 use Rattle.words.proofs.Order.{rises-out}
@@ -18,24 +17,24 @@ use Rattle.words.proofs.Common.{common-begins}
 use Rattle.words.specs.LittleEndian.{byte}
 use Rattle.meaning.specs.Trails.{Link, linkKey}
 use Rattle.meaning.specs.Answers.{linksCap}
-use Rattle.standing.specs.Sessions.{Entry, entry, RisesByLink}
+use Rattle.standing.specs.Sessions.{Entry, entry}
 use Rattle.standing.specs.Soundly.{piecesOn, weight, longest, longestOf}
 use Rattle.standing.specs.Bytes.{linkStart, lengthStart, countOf, lengthAt, linkAt, NoneBelow}
-use Rattle.standing.specs.Numbers.{seatAt, footAt, levelOf, Graded, Levelled, Weighable, weightAt, weights, pairs}
+use Rattle.standing.specs.Numbers.{seatAt, footAt, Graded, Levelled, Weighable, weightAt, weights, pairs}
 use Rattle.standing.specs.Numbers.{RootedAt}
 use Rattle.standing.proofs.Tests.{pieces-in}
 use Rattle.stepping.specs.Stepping.{foot, seat, hasFoot, base, push, cut, entryKey}
 use Rattle.stepping.proofs.Feet.{foot-exact, foot-own}
 use Rattle.links.specs.Heads.{withLength}
-use Rattle.drafting.specs.Drafts.{whereStart, handedStart, slotStart, draftRoom, workSize, whereAt, handedAt}
+use Rattle.drafting.specs.Drafts.{whereStart, handedStart, workSize, whereAt, handedAt}
 use Rattle.drafting.specs.Drafts.{pieceIn, draftIn, draftsOf, withTwo, Drafted, Plain, footNo, Lies, CommonOn}
 use Rattle.drafting.specs.Drafts.{SameLinks, Pushed, besideOf, Cutting, CutBy, CutOne, CutTo, Ready, SettledTo}
-use Rattle.drafting.specs.declared.settling.Settled.{Settled}
 use Rattle.drafting.proofs.Numbers.{foot-number, lowest-number, from-plain, foot-from}
 use Rattle.drafting.proofs.Listed.{part-in}
 use Rattle.drafting.proofs.Rooms.{apart, piece-length, piece-same, small-two}
 use Rattle.drafting.proofs.Groups.{draft-lies, draft-length, common-length, base-bottom, above-all}
-use Rattle.drafting.proofs.Pushing.{same-count, same-link, same-none, same-foot, same-seat, links-self, links-then}
+use Rattle.drafting.proofs.Pushing.{same-count, same-link, same-none, same-foot, same-seat, links-self}
+use Rattle.drafting.proofs.Pushing.{links-then}
 use Rattle.drafting.proofs.Pushing.{same-levelled, stored-two}
 
 module _ {work : List ℕ} {sent : ℕ} (h : Cutting work sent)
@@ -85,7 +84,8 @@ module _ {work : List ℕ} {sent : ℕ} (h : Cutting work sent)
       let K = draftsOf work in
       let f = hasFoot (foot (linkAt work i)) in
       let m = part-in (draftIn work) 0 (countOf work) i (omega arith) l in
-      let b = common-begins (piecesOn f K) (pieces-in f K (linkAt work i) (pieceIn work i) m (foot-own (linkAt work i))) in
+      let b = common-begins (piecesOn f K) (pieces-in f K (linkAt work i) (pieceIn work i) m (foot-own
+      (linkAt work i))) in
       omega (
         arith,
         length-append (besideOf work i) (b .rest),
@@ -163,7 +163,8 @@ cut-start work =
       left = λ i g l. (refl, refl);
     }
 
-module _ {work₀ work : List ℕ} {i : ℕ} (c : CutTo work₀ i work) (few : countOf work₀ ≤ 64) (lt : i < countOf work₀) where
+module _ {work₀ work : List ℕ} {i : ℕ} (c : CutTo work₀ i work) (few : countOf work₀ ≤ 64)
+    (lt : i < countOf work₀) where
   -- what is handed down and stood on is as it was
   pub cut-by : {sent r : ℕ} → CutBy work sent i r → CutBy work₀ sent i r
   cut-by {sent} {r} b = record { is = go (b .is) }

@@ -5,16 +5,15 @@ use mathlib.Core.Bool.{Bool, true, false, false≢true}
 use mathlib.Core.List.{List, [], _∷_, _++_, map, map-append, append-nil, Memᴰ·append-left, Memᴰ·append-right}
 use mathlib.Core.List.{List·Memᴰ·head, List·Memᴰ·tail, List·Memᴰ·cases-cons, List·Memᴰ·append-cases}
 use mathlib.Core.List.{List·Memᴰ·eq-of-singleton}
-use Prim.Native.Nat.{ℕ, zero, suc, _+_, _-_, _*_, _≤_, _<_}
+use Prim.Native.Nat.{ℕ, zero, suc, _+_, _-_, _≤_, _<_}
 use native.Mathlib.Omega.{arith}
-use native.Mathlib.Nat.{eq-or-lt-of-le, eq-zero-or-pos}
+use native.Mathlib.Nat.{eq-or-lt-of-le}
 use native.Mathlib.Numerals.{add-one}
-use lib.Dec.{eqb}
-use lib.ListN.{length, take, drop, length-append, length-take, length-drop}
+use lib.ListN.{length, take, drop, length-append, length-take}
 use lib.Seq.{take-take}
 use borrow.Author.Tests.{eq-eqb, ne-eqb}
 use Rattle.words.specs.Lists.{_among_, only, isEmpty, upTo}
-use Rattle.words.specs.Words.{Word, Begins, shared, common}
+use Rattle.words.specs.Words.{Word, shared, common}
 use Rattle.words.proofs.Lists.{each-append, below-or}
 use Rattle.words.proofs.Common.{shared-right, begins-take, common-same}
 use Rattle.words.proofs.Exact.{exact-same, eqb-exact}
@@ -26,7 +25,7 @@ use Rattle.standing.specs.Numbers.{seatAt, footAt, startOf, levelOf, FirstAt, L
 use Rattle.stepping.specs.Stepping.{seat, hasFoot, base}
 use Rattle.stepping.proofs.Push.{base-after}
 use Rattle.links.proofs.Levelled.{foot-before}
-use Rattle.drafting.specs.Drafts.{slotStart, draftRoom, workSize, whereAt, pieceIn, draftIn, draftsIn, draftsOf}
+use Rattle.drafting.specs.Drafts.{draftRoom, workSize, whereAt, pieceIn, draftIn, draftsIn, draftsOf}
 use Rattle.drafting.specs.Drafts.{Drafted, PicksFoot, CommonOn, Plain, seatNo, footNo, Lies, Narrowed}
 use Rattle.drafting.proofs.Numbers.{foot-number, lowest-number, from-plain, foot-from}
 use Rattle.drafting.proofs.Listed.{part-cons}

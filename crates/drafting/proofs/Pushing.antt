@@ -5,7 +5,6 @@ use mathlib.Core.Logic.{_⊎_, inl, inr, ⊎-elim}
 use mathlib.Core.List.{List, [], _∷_, _++_, map, List·Memᴰ·head, List·Memᴰ·tail}
 use Prim.Native.Nat.{ℕ, zero, suc, _+_, _-_, _*_, _/_, _%_, _<_, _≤_}
 use native.Mathlib.Nat.{eq-or-lt-of-le, eq-zero-or-pos}
-use native.Mathlib.Numerals.{add-one}
 use native.Mathlib.Omega.{arith}
 use lib.ListN.{length, take, drop, length-append}
 use lib.Seq.{ext-getD, take-add, drop-drop}
@@ -15,22 +14,21 @@ use Rattle.words.proofs.Lists.{below-or}
 use Rattle.words.proofs.Pasted.{Pasted, stored}
 use Rattle.words.specs.LittleEndian.{byte}
 use Rattle.meaning.specs.Trails.{Link}
-use Rattle.meaning.specs.Answers.{linksCap}
 use Rattle.standing.specs.Sessions.{Entry, entry}
 use Rattle.standing.specs.Bytes.{linkStart, lengthStart, countOf, lengthAt, linkAt, NoneBelow}
-use Rattle.standing.specs.Numbers.{seatAt, footAt, startOf, levelOf, Graded, Levelled, pairs}
+use Rattle.standing.specs.Numbers.{seatAt, footAt, levelOf, Levelled, pairs}
 use Rattle.stepping.specs.Stepping.{seat, base, push}
 use Rattle.stepping.proofs.Push.{pushed}
 use Rattle.links.specs.Heads.{withLength}
 use Rattle.links.proofs.Linked.{link-same}
 use Rattle.links.proofs.Levelled.{foot-level, seat-level}
 use Rattle.drafting.specs.Drafts.{whereStart, handedStart, slotStart, draftRoom, workSize, whereAt, handedAt}
-use Rattle.drafting.specs.Drafts.{pieceIn, draftIn, draftsIn, draftsOf, withTwo, Away, Drafts, Drafted, Written}
+use Rattle.drafting.specs.Drafts.{pieceIn, draftIn, draftsIn, draftsOf, withTwo, Away, Drafted, Written}
 use Rattle.drafting.specs.Drafts.{CommonOn, SameLinks, aboveOf, PushedOne, Pushed, Short}
 use Rattle.drafting.proofs.Listed.{part-cons, part-none, part-same}
 use Rattle.drafting.proofs.Rooms.{apart, piece-byte, piece-length, piece-same, small-two}
 use Rattle.drafting.proofs.Rooms.{small-written, small-part}
-use Rattle.drafting.proofs.Groups.{draft-lies, draft-length, common-length, base-seat, above-all}
+use Rattle.drafting.proofs.Groups.{draft-length, common-length, base-seat, above-all}
 
 -- what is read of links, where they are as they were
 
@@ -112,7 +110,8 @@ abbrev Room : List ℕ → ℕ → Type 0
 Room work i = length (pieceIn work i) + length (aboveOf work i) ≤ draftRoom
 
 module _ {work starts : List ℕ} {i from many foot : ℕ} (d : Drafted work)
-    (v : Levelled work starts) (lt : i < countOf work) (at : foot ≡ seatAt work i) (c : CommonOn work foot from many) where
+    (v : Levelled work starts) (lt : i < countOf work) (at : foot ≡ seatAt work i)
+    (c : CommonOn work foot from many) where
   above : aboveOf work i ≡ take many (drop from work)
   above = sym (above-all work (countOf work) i lt (v .graded .rise)) ∙ base-seat d i at c
 
@@ -151,7 +150,8 @@ module _ {work starts : List ℕ} {i from many foot : ℕ} (d : Drafted work)
           let s = k .2 in
           ⊎-elim (λ h. inl (omega arith)) (λ h. inr (omega arith)) (away (k .0) (k .1) (other (k .0) (k .3)))
 
-  module _ {one three : List ℕ} (two : List ℕ) (room : Room work i) (copy : Written work (endOf work i) (take many (drop from work)) one)
+  module _ {one three : List ℕ} (two : List ℕ) (room : Room work i) (copy : Written work (endOf work i) (take many
+      (drop from work)) one)
       (long : two ≡ withLength one i (lengthAt work i + many)) (hand : three ≡ withTwo two (handedStart i) many)
     where
       in-head : i < 64
@@ -188,7 +188,8 @@ module _ {work starts : List ℕ} {i from many foot : ℕ} (d : Drafted work)
           subst (λ (b : List ℕ). Bytes b) (sym hand)
           (small-two two (handedStart i) many
           (subst (λ (b : List ℕ). Bytes b) (sym long)
-          (small-two one (lengthStart i) sum (small-written (d .small) (small-part from many (d .small)) copy) (omega arith)))
+          (small-two one (lengthStart i) sum (small-written (d .small) (small-part from many (d .small)) copy)
+          (omega arith)))
           (omega arith))
 
       links : SameLinks work three
@@ -254,7 +255,8 @@ module _ {work starts : List ℕ} {i from many foot : ℕ} (d : Drafted work)
           let lo = low in
           rw (new-long, start i in-head)
           (take-add n many (drop w three)
-          ∙ ap₂ (λ (x y : Word). x ++ y) (piece-same work w n three whole (λ k h. slot (w + k) (omega arith) (inl (omega arith))))
+          ∙ ap₂ (λ (x y : Word). x ++ y) (piece-same work w n three whole (λ k h. slot (w + k) (omega arith) (inl
+          (omega arith))))
           (ap (take many) (drop-drop n w three) ∙ behind ∙ sym above))
         where
           behind : take many (drop (endOf work i) three) ≡ take many (drop from work)
@@ -299,7 +301,8 @@ module _ {work starts : List ℕ} {i from many foot : ℕ} (d : Drafted work)
               few = omega arith;
               below = λ j g h. same-none links j (omega arith) (d .below j g (omega arith));
               short = λ j g h.
-                  same-or (λ j. j < countOf work → lengthAt three j ≤ draftRoom) (λ o. let r = has-room room in omega (arith, new-long))
+                  same-or (λ j. j < countOf work → lengthAt three j ≤ draftRoom)
+                  (λ o. let r = has-room room in omega (arith, new-long))
                   (λ j ne o. omega (arith, kept-long j (omega arith) ne, d .short j (omega arith) o)) j (omega arith);
               low = λ j g h. rw (start j (omega arith)) (d .low j g (omega arith));
               high = λ j g h. rw (start j (omega arith), size) (d .high j g (omega arith));
@@ -340,7 +343,8 @@ pushed-among : (f : ℕ → Entry) (n i : ℕ) → i < n → (s a : ℕ) → a +
     → pushed (push (drop (i + 1) (map f (upTo n)))) (f i) among push (drop a (map f (upTo n)))
 pushed-among f n i lt zero a e =
     let d : i ≡ a = omega arith in
-    let P : ℕ → Type 0 = λ a. pushed (push (drop (a + 1) (map f (upTo n)))) (f a) among push (drop a (map f (upTo n))) in
+    let P : ℕ → Type 0 = λ a. pushed (push (drop (a + 1) (map f (upTo n)))) (f a) among push
+    (drop a (map f (upTo n))) in
     let h : P i = rw (part-cons f i n lt) (List·Memᴰ·head refl) in
     rw (← d) h
 pushed-among f n i lt (suc s) a e =
@@ -391,7 +395,8 @@ module _ {work₀ work : List ℕ} {j : ℕ} (i : ℕ) (g : Pushing work₀ j wo
         λ m. entry (a m) (b m)
 
     behind-same : (a : ℕ) → i < a → draftsIn work′ a size ≡ draftsIn work a size
-    behind-same a h = part-same (draftIn work′) (draftIn work) a a size size refl (λ k l. behind (a + k) (omega arith) l)
+    behind-same a h = part-same (draftIn work′) (draftIn work) a a size size refl
+        (λ k l. behind (a + k) (omega arith) l)
 
     above-same : (k : ℕ) → i ≤ k → k < size → aboveOf work′ k ≡ aboveOf work k
     above-same k h l =

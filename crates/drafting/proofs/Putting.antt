@@ -4,13 +4,10 @@ use mathlib.Core.Path.{_≡_, refl, sym, _∙_, ap, subst}
 use mathlib.Core.Bool.{true, false}
 use mathlib.Core.Logic.{_⊎_, inl, inr}
 use mathlib.Core.List.{List, map}
-use Prim.Native.Nat.{ℕ, _+_, _-_, _*_, _<_, _≤_}
+use Prim.Native.Nat.{ℕ, _+_, _-_, _<_, _≤_}
 use native.Mathlib.Nat.{eq-or-lt-of-le}
-use native.Mathlib.Numerals.{add-one}
 use native.Mathlib.Omega.{arith}
-use borrow.Author.Count.{below-more}
-use lib.ListN.{length, set, take, drop, length-set}
-use lib.Seq.{ext-getD, getD-set-same, getD-set-other, getD-take, getD-drop, length-take-le}
+use lib.ListN.{length, set}
 use Rattle.words.specs.Lists.{_among_, upTo}
 use Rattle.words.specs.Words.{Word, Bytes}
 use Rattle.words.specs.Order.{Less, put}
@@ -21,14 +18,14 @@ use Rattle.words.specs.LittleEndian.{byte}
 use Rattle.meaning.specs.Trails.{Link}
 use Rattle.meaning.specs.Answers.{linksCap}
 use Rattle.standing.specs.Sessions.{Entry, entry, RisesByLink}
-use Rattle.standing.specs.Bytes.{linkStart, lengthStart, countOf, lengthAt, linkAt, NoneBelow}
+use Rattle.standing.specs.Bytes.{linkStart, countOf, lengthAt, linkAt, NoneBelow}
 use Rattle.standing.specs.Numbers.{keyAt}
 use Rattle.stepping.specs.Stepping.{entryKey, clashes}
 use Rattle.stepping.proofs.Keep.{clashes-exact}
 use Rattle.links.specs.declared.Link.{Link as Five}
 use Rattle.links.specs.Heads.{fiveOf, keyOf, meant}
-use Rattle.drafting.specs.Drafts.{whereStart, handedStart, slotStart, draftRoom, workSize, whereAt, pieceIn, draftIn}
-use Rattle.drafting.specs.Drafts.{draftsOf, Away, Drafts, Drafted, linkNo, Plain, Clean, Moved, Written, Drew, Lifted}
+use Rattle.drafting.specs.Drafts.{slotStart, draftRoom, workSize, whereAt, pieceIn, draftIn}
+use Rattle.drafting.specs.Drafts.{draftsOf, Away, Drafted, linkNo, Plain, Clean, Moved, Written, Drew, Lifted}
 use Rattle.drafting.specs.Drafts.{Place, There, Placed, NoSlot, Rest}
 use Rattle.drafting.proofs.Numbers.{number-one, number-rises, from-plain, key-from}
 use Rattle.drafting.proofs.Listed.{length-all, part-in, part-out, put-longer, put-there, put-between}
@@ -162,7 +159,8 @@ module _ {work : List ℕ} (drafts : Drafted work) where
           last = headed-moved three (n + 1) whole head
 
           rest : Rest one four
-          rest = rest-then (lift .rest) (rest-then (draw .wrote .rest) (headed-rest three (n + 1) whole head (omega arith)))
+          rest = rest-then (lift .rest) (rest-then (draw .wrote .rest) (headed-rest three (n + 1) whole head
+              (omega arith)))
 
           slots : (k : ℕ) → slotStart 0 ≤ k → byte four k ≡ byte one k
           slots k h = rest .slots k (omega arith)
@@ -207,7 +205,8 @@ module _ {work : List ℕ} (drafts : Drafted work) where
           listed =
               ap (λ (m : ℕ). map (draftIn four) (upTo m)) (count ∙ ap (λ (m : ℕ). m + 1) all)
               ∙ sym (put-between entryKey new-entry (draftIn work) (countOf work) at before (draftIn four)
-              (let w = place .within in omega arith) (above at (omega arith)) (λ i h. old i (source i h) (stayed i h)) here-draft
+              (let w = place .within in omega arith) (above at (omega arith))
+              (λ i h. old i (source i h) (stayed i h)) here-draft
               (λ i g h. let k : i < n = omega arith in old i k (went i g k)))
             where
               source : (i : ℕ) → i < at → i < n

@@ -3,14 +3,12 @@
 use mathlib.Core.Path.{_≡_, refl, sym, _∙_, ap, subst}
 use mathlib.Core.Logic.{_⊎_, inl, inr, ⊎-elim}
 use mathlib.Core.List.{List, [], _∷_, map}
-use Prim.Native.Nat.{ℕ, zero, suc, _+_, _-_, _*_, _/_, _%_, _<_, _≤_}
+use Prim.Native.Nat.{ℕ, zero, suc, _+_, _-_, _/_, _%_, _<_, _≤_}
 use native.Mathlib.Nat.{add-zero}
-use native.Mathlib.Numerals.{add-one}
 use native.Mathlib.Omega.{arith}
-use lib.ListN.{length, getD, take, drop, set, length-set, length-take, length-drop, length-append, List·getD-append}
+use lib.ListN.{length, getD, take, drop, set, length-set, length-take, length-drop}
 use lib.ListN.{List·getD-eq-default}
-use lib.Seq.{ext-getD, getD-take, getD-drop, getD-append-add, getD-set-same, getD-set-other, length-take-le}
-use lib.Seq.{take-suc, take-all}
+use lib.Seq.{ext-getD, getD-take, getD-drop, getD-set-same, getD-set-other, length-take-le}
 use Rattle.words.specs.Lists.{upTo}
 use Rattle.words.specs.Words.{Word, Bytes}
 use Rattle.words.proofs.Pasted.{Pasted, stored}
@@ -18,13 +16,13 @@ use Rattle.words.proofs.Lists.{below-or, byte-getD, getD-byte, bytes-cons, byte
 use Rattle.words.specs.LittleEndian.{byte}
 use Rattle.meaning.specs.Answers.{linksCap}
 use Rattle.standing.specs.Sessions.{entry}
-use Rattle.standing.specs.Bytes.{linkStart, lengthStart, countOf, lengthAt, linkFrom, linkAt, NoneBelow}
-use Rattle.standing.specs.Numbers.{seatAt, footAt, keyAt, headSize, pairs}
+use Rattle.standing.specs.Bytes.{linkStart, lengthStart, countOf, lengthAt, linkAt, NoneBelow}
+use Rattle.standing.specs.Numbers.{footAt, pairs}
 use Rattle.links.specs.declared.Link.{Link as Five}
 use Rattle.links.specs.Heads.{fiveOf, meant, Read, withLink}
 use Rattle.links.proofs.Linked.{link-same, Linked, linked}
-use Rattle.drafting.specs.Drafts.{whereStart, handedStart, slotStart, draftRoom, workSize, whereAt, handedAt}
-use Rattle.drafting.specs.Drafts.{pieceIn, draftIn, withTwo, Away, Drafts, Clean, Moved, Rest, Wrote, Drew}
+use Rattle.drafting.specs.Drafts.{whereStart, slotStart, draftRoom, workSize, whereAt}
+use Rattle.drafting.specs.Drafts.{pieceIn, draftIn, withTwo, Away, Drafts, Clean, Moved, Rest, Drew}
 use Rattle.drafting.specs.Drafts.{Written, draftsIn, draftsOf, Drafted}
 use Rattle.drafting.proofs.Listed.{part-same}
 
@@ -306,7 +304,8 @@ module _ {work work′ : List ℕ} {i : ℕ} {l : Five} {n at : ℕ} (d : Drew w
       (d .five 3 (omega arith) ∙ f .0, d .five 4 (omega arith) ∙ f .1)
 
   -- what was read elsewhere
-  pub drew-moved : (j : ℕ) → Read work (linkStart j) l → n ≡ lengthAt work j → at ≡ whereAt work j → Moved work j work′ i
+  pub drew-moved : (j : ℕ) → Read work (linkStart j) l → n ≡ lengthAt work j → at ≡ whereAt work j
+      → Moved work j work′ i
   drew-moved j r e f =
       record { link = λ k h. d .five k h ∙ five k h; long = d .long ∙ e; start = d .start ∙ f }
     where

@@ -3,13 +3,13 @@ use mathlib.Core.Path.{_≡_, refl, sym, _∙_, ap, ap₂, subst}
 use mathlib.Core.Bool.{Bool, true, false, cond, _&&_, false≢true}
 use mathlib.Core.Logic.{_⊎_, inl, inr}
 use mathlib.Core.List.{List, [], _∷_, _++_, append-nil}
-use Prim.Native.Nat.{ℕ, zero, suc, _+_, _-_, _*_, _/_, _<_, _≤_}
+use Prim.Native.Nat.{ℕ, zero, suc, _+_, _-_, _/_, _<_, _≤_}
 use native.Mathlib.Numerals.{add-one}
 use native.Mathlib.Omega.{arith}
 use lib.Dec.{ltb}
 use lib.ListN.{length, drop, set}
 use borrow.Author.Tests.{ltb-true, ne-eqb}
-use Rattle.words.specs.Lists.{_among_, Exact, only, anyOf}
+use Rattle.words.specs.Lists.{Exact, only, anyOf}
 use Rattle.words.specs.Words.{Word, Bytes}
 use Rattle.words.proofs.Lists.{any-in, any-out, below-or}
 use Rattle.words.proofs.Exact.{exact-same, and-exact, ltb-exact, yes-exact, no-exact}
@@ -27,18 +27,21 @@ use Rattle.links.proofs.Levelled.{foot-level}
 use Rattle.links.proofs.Linked.{read-meant}
 use Rattle.standing.proofs.Bytes.{long}
 use Rattle.drafting.specs.Drafts.{slotStart, draftRoom, workSize, whereAt, pieceIn, draftIn, draftsIn, draftsOf}
-use Rattle.drafting.specs.Drafts.{Away, Drafts, Drafted, Clean, Moved, Rest, Written, Drew, Lifted, Lowered, Footed}
+use Rattle.drafting.specs.Drafts.{Away, Drafts, Drafted, Clean, Moved, Rest, Written, Drew, Lifted, Lowered}
+use Rattle.drafting.specs.Drafts.{Footed}
 use Rattle.drafting.specs.Drafts.{Stays, AllAt, LevelsRise, OneMore, shakenOver, ShakenTo}
 use Rattle.drafting.proofs.Numbers.{foot-number, from-plain, foot-from}
 use Rattle.drafting.proofs.Listed.{part-cons, part-none, part-in, part-out, part-length, part-same}
 use Rattle.drafting.proofs.Rooms.{moved-then, moved-none, moved-link, moved-draft, drew-link, drew-none}
-use Rattle.drafting.proofs.Rooms.{piece-written, rest-then, headed-count, headed-rest, headed-moved, drafts-moved}
+use Rattle.drafting.proofs.Rooms.{piece-written, rest-then, headed-count, headed-rest, headed-moved}
+use Rattle.drafting.proofs.Rooms.{drafts-moved}
 use Rattle.drafting.proofs.Rooms.{same-drafts, clean-read}
 use Rattle.drafting.proofs.Carried.{written-moved}
 
 -- an entry drafted right before the others
 
-module _ {work one two : List ℕ} {first at slot size : ℕ} {l : Five} {piece : Word} (drafts : Drafts work first linksCap)
+module _ {work one two : List ℕ} {first at slot size : ℕ} {l : Five} {piece : Word}
+    (drafts : Drafts work first linksCap)
     (prev : at + 1 ≡ first) (top : first ≤ linksCap) (short : length piece ≤ draftRoom) (as-long : size ≡ length piece)
     (next : slot ≡ slotStart (linksCap - first)) (fill : Written work slot piece one)
     (draw : Drew one at l size slot two) (clean : Clean l) (small : Bytes one) where
@@ -140,7 +143,8 @@ pub lower-more : {session work one two piece : List ℕ} {first slot size : ℕ}
     → Read session (linkStart i) l → slot ≡ slotStart (linksCap - first) → size ≡ length piece
     → Written work slot (piece ++ [] ++ []) one → Drew one (first - 1) l size slot two → Bytes one
     → OneMore (entryAt session i) work first two
-lower-more {session} {work} {one} {two} {piece} {first} {slot} {size} {l} i kept lt ok pos top e r next as-long fill draw small =
+lower-more {session} {work} {one} {two} {piece} {first} {slot} {size} {l} i kept lt ok pos top e r next as-long fill
+    draw small =
     let p : piece ++ [] ++ [] ≡ piece = append-nil (piece ++ []) ∙ append-nil piece in
     let f = subst (λ (w : Word). Written work slot w one) p fill in
     let clean = clean-read i (kept .small) (kept .below i lt) r in
@@ -150,7 +154,8 @@ lower-more {session} {work} {one} {two} {piece} {first} {slot} {size} {l} i kept
     (one-more ok (omega arith) top (piece-fits i kept lt e) as-long next f draw clean small)
 
 -- behind one that is too high none has the foot
-pub not-high : {work : List ℕ} {first seat level : ℕ} → Drafts work first linksCap × LevelsRise work first linksCap × (first ≤ linksCap)
+pub not-high : {work : List ℕ} {first seat level : ℕ}
+    → Drafts work first linksCap × LevelsRise work first linksCap × (first ≤ linksCap)
     → (i : ℕ) → first ≤ i → ((k : ℕ) → k < i → first ≤ k → footAt work k ≡ seat → ⊥) → level ≡ linkAt work i .level
     → seat / pairs < level → Footed work first seat → ⊥
 not-high {work} {first} {seat} {level} pre i from none is high h = go (below-or (h .0) i)
@@ -175,7 +180,8 @@ footed-exact {work} {session} {first} ok small i = (to, fro)
     stands k g lt =
         let a = from-plain work (ok .small) (linkStart k) in
         let b = from-plain session small (linkStart i) in
-        rw (foot-from work (ok .small) (linkStart k) (ok .below k g lt)) (foot-number (linkAt work k) (linkAt session i) a b)
+        rw (foot-from work (ok .small) (linkStart k) (ok .below k g lt))
+        (foot-number (linkAt work k) (linkAt session i) a b)
 
     to : Footed work first (seatAt session i) → anyOf test (draftsIn work first linksCap) ≡ true
     to h =
@@ -351,7 +357,8 @@ module _ {session work : List ℕ} {D : List Entry} {d i first : ℕ} (small : B
         full = λ z. omega (arith, ap length (shaken-all session d D));
       }
 
-pub shaking-end : {session work work′ work″ : List ℕ} {D : List Entry} {d i first n : ℕ} → Shaking session d D i work first
+pub shaking-end : {session work work′ work″ : List ℕ} {D : List Entry} {d i first n : ℕ}
+    → Shaking session d D i work first
     → i ≤ 0 → n ≡ linksCap - first → Lowered work first n work′ → work″ ≡ set (set work′ 0 0) 1 n
     → ShakenTo (shakenOver session d D) true work″
 shaking-end {session} {work} {work′} {work″} {D} {d} {i} {first} {n} s le many low head =

@@ -19,7 +19,7 @@ use Rattle.standing.specs.Soundly.{piecesOn, longest}
 use Rattle.standing.specs.Bytes.{linkStart, countOf, lengthAt, linkAt, NoneBelow, sessionOf}
 use Rattle.standing.specs.Numbers.{seatAt, footAt, keyAt, RootedAt}
 use Rattle.stepping.specs.Stepping.{seat, foot, lower, shake, base, push, cut, entryKey, clashes}
-use Rattle.links.specs.Heads.{fiveOf, keyOf, meant}
+use Rattle.links.specs.Heads.{fiveOf, keyOf}
 use Rattle.links.specs.declared.Link.{Link as Five}
 use Rattle.drafting.specs.declared.keeping.Keeping.{Keeping}
 use Rattle.drafting.specs.declared.keeping.Keeping.the-variants.{Same, Other, New, Full}

@@ -3,4 +3,3 @@ pub mod Tested
 pub mod Rewritten
 pub mod Asked
 pub mod Ended
-pub mod Telling

@@ -4,49 +4,51 @@ use mathlib.Core.Logic.{_⊎_, inl, inr}
 use mathlib.Core.List.{List, []}
 use Prim.Native.Nat.{ℕ, _+_, _<_, _≤_}
 use native.Mathlib.Omega.{arith}
-use lib.ListN.{length, getD, set, length-set, List·getD-eq-default}
-use lib.Seq.{getD-set-same, getD-set-other}
-use Rattle.words.specs.Words.{Word}
-use Rattle.words.proofs.Lists.{below-or}
+use lib.ListN.{length, getD, set, drop, length-map, length-set, length-drop, List·getD-eq-default}
+use lib.Seq.{length-take-le, getD-set-same, getD-set-other}
+use Rattle.words.specs.Lists.{upTo}
+use Rattle.words.proofs.Lists.{below-or, length-upTo, getD-map-upTo}
+use Rattle.words.specs.LittleEndian.{byte}
 use Rattle.meaning.specs.Answers.{linksCap}
 use Rattle.standing.specs.Sessions.{Entry}
-use Rattle.standing.specs.Bytes.{linkStart, lengthStart, pieceStart, pieceRoom, size, countOf, lengthAt, linkAt, Kept}
-use Rattle.standing.specs.Bytes.{noEntry, linkBytes, bytesOf}
+use Rattle.standing.specs.Bytes.{linkStart, lengthStart, pieceStart, size, countOf, lengthAt, Kept, noEntry}
+use Rattle.standing.specs.Bytes.{linkBytes, bytesOf}
 use Rattle.standing.specs.Numbers.{Tidy, Ready, Holds, Same, Put}
 use Rattle.standing.proofs.Held.{put-others, held-same, same-all, same-then, none-kept, held-all}
 use Rattle.links.specs.declared.Link.{Link}
 use Rattle.links.specs.Heads.{fiveOf, Read}
 use Rattle.links.proofs.Linked.{read-bytes}
-use Rattle.words.proofs.Lists.{getD-map-upTo}
-use Rattle.words.specs.LittleEndian.{byte}
 use Rattle.drafting.specs.Drafts.{whereAt, pieceIn, draftIn, draftsOf}
-use Rattle.drafting.proofs.Listed.{length-all}
-use Rattle.drafting.proofs.Rooms.{piece-length}
-use Rattle.engine.specs.Writing.{Fits, draftSession, PutFrom, Written}
+use Rattle.engine.specs.Writing.{Fitting, drafted, PutFrom, Written}
 
--- behind the last there is nothing
-none-behind : (work : List ℕ) (p : ℕ) → countOf work ≤ p → getD (draftsOf work) p noEntry ≡ noEntry
-none-behind work p le =
-    List·getD-eq-default (draftsOf work) noEntry (omega (arith, length-all (draftIn work) (countOf work)))
+module _ (work : List ℕ) where
+  counted : length (draftsOf work) ≡ countOf work
+  counted = length-map (upTo (countOf work)) (draftIn work) ∙ length-upTo (countOf work)
 
-pub put-none : {work bytes bytes′ : List ℕ} {n p : ℕ} → n ≡ countOf work → n ≤ p
+  -- behind the last there is nothing
+  none-behind : (p : ℕ) → countOf work ≤ p → getD (draftsOf work) p noEntry ≡ noEntry
+  none-behind p le = List·getD-eq-default (draftsOf work) noEntry (omega (arith, counted))
+
+pub put-none : (work : List ℕ) {bytes bytes′ : List ℕ} {n p : ℕ} → n ≡ countOf work → n ≤ p
     → Put bytes p (linkBytes (noEntry .link)) [] bytes′ → PutFrom (draftsOf work) bytes p bytes′
-put-none {work} {bytes} {bytes′} {n} {p} all le h =
-    subst (λ (e : Entry). Put bytes p (linkBytes (e .link)) (e .piece) bytes′) (sym (none-behind work p (omega arith))) h
+put-none work {bytes} {bytes′} {n} {p} e le h =
+    subst (λ (e : Entry). Put bytes p (linkBytes (e .link)) (e .piece) bytes′)
+    (sym (none-behind work p (omega arith))) h
 
--- to a place before their end comes the draft that stands there
-module _ {work piece : List ℕ} {p : ℕ} (f : Fits work) (lt : p < countOf work) (is : piece ≡ pieceIn work p) where
-  pub draft-ready : {bytes : List ℕ} → Tidy bytes p → Ready bytes p piece
-  draft-ready tidy =
-      let n = piece-length work (whereAt work p) (lengthAt work p) (omega (arith, f .lies p lt, f .whole)) in
+-- to a place before their end comes the draft there
+module _ {work : List ℕ} (f : Fitting work) (p : ℕ) (lt : p < countOf work) where
+  pub draft-ready : {bytes piece : List ℕ} → piece ≡ pieceIn work p → Tidy bytes p → Ready bytes p piece
+  draft-ready {piece = piece} is tidy =
+      let n =
+      length-take-le (lengthAt work p) (drop (whereAt work p) work)
+      (omega (arith, f .lies p lt, f .whole, length-drop (whereAt work p) work)) in
       record { range = omega (arith, f .few); short = omega (arith, ap length is, f .short p lt); tidy = tidy }
 
-  pub put-draft : {bytes bytes′ : List ℕ} {l : Link} → Read work (linkStart p) l → Put bytes p (fiveOf l) piece bytes′
-      → PutFrom (draftsOf work) bytes p bytes′
-  put-draft {bytes} {bytes′} {l} r h =
-      let e = getD-map-upTo (draftIn work) (countOf work) p noEntry lt in
-      let g : fiveOf l ≡ linkBytes (linkAt work p) = read-bytes (f .below p lt) r in
-      subst (λ (e : Entry). Put bytes p (linkBytes (e .link)) (e .piece) bytes′) (sym e) (rw (g, is) at h)
+  pub put-draft : {bytes bytes′ piece : List ℕ} {l : Link} → Read work (linkStart p) l → piece ≡ pieceIn work p
+      → Put bytes p (fiveOf l) piece bytes′ → PutFrom (draftsOf work) bytes p bytes′
+  put-draft {bytes} {bytes′} r is h =
+      subst (λ (e : Entry). Put bytes p (linkBytes (e .link)) (e .piece) bytes′)
+      (sym (getD-map-upTo (draftIn work) (countOf work) p noEntry lt)) (rw (read-bytes (f .below p lt) r, is) at h)
 
 -- the places one after the other
 pub written-none : (E : List Entry) (bytes : List ℕ) → Written E bytes 0 bytes
@@ -68,7 +70,7 @@ written-more {E} {bytes} {bytes′} {bytes″} {p} w range h =
     go i (inr g) lt = let e : i ≡ p = omega arith in rw e (h .here)
 
 -- all places, with the depth and the count
-module _ {work bytes bytes′ : List ℕ} {n end : ℕ} (depth : ℕ) (all : n ≡ countOf work) (kept : Kept bytes)
+module _ (work : List ℕ) {bytes bytes′ : List ℕ} {n end : ℕ} (depth : ℕ) (is : n ≡ countOf work) (kept : Kept bytes)
     (le : n ≤ end) (few : countOf bytes ≤ end) (w : Written (draftsOf work) bytes end bytes′) where
   abbrev E : List Entry
   E = draftsOf work
@@ -87,7 +89,8 @@ module _ {work bytes bytes′ : List ℕ} {n end : ℕ} (depth : ℕ) (all : n �
   second : byte headed 1 ≡ length E
   second =
       getD-set-same (set bytes′ 0 depth) 1 n 0 (omega (arith, whole, length-set bytes′ 0 depth))
-      ∙ all ∙ sym (length-all (draftIn work) (countOf work))
+      ∙ is
+      ∙ sym (counted work)
 
   other : (k : ℕ) → 2 ≤ k → byte headed k ≡ byte bytes′ k
   other k ge =
@@ -110,8 +113,8 @@ module _ {work bytes bytes′ : List ℕ} {n end : ℕ} (depth : ℕ) (all : n �
       (sym (none-behind work i (omega arith)))
       (held-same (w .rest i ge range) (none-kept kept i range (omega arith)))
 
-  pub written-all : headed ≡ bytesOf (draftSession depth work)
+  pub written-all : headed ≡ bytesOf (drafted depth work)
   written-all =
-      held-all (draftSession depth work)
+      held-all (drafted depth work)
       (length-set (set bytes′ 0 depth) 1 n ∙ length-set bytes′ 0 depth ∙ whole) first second
       (λ i range. held-same (same i) (holds i range (below-or i end)))

@@ -1,4 +1,4 @@
--- What the call `step` promises; for proofs only, what it knows after each test and how it writes the session.
-pub mod Calls
+-- For proofs only: what `step` knows after each test, and how it writes the session.
+
 pub mod Writing
 pub mod Tests

@@ -9,8 +9,8 @@ use Rattle.standing.specs.Bytes.{linkStart, pieceRoom, countOf, lengthAt, NoneB
 use Rattle.standing.specs.Numbers.{Holds, Same, Put}
 use Rattle.drafting.specs.Drafts.{workSize, draftsOf, Lies}
 
--- drafts that lie in the room, each with a piece that a session has places for
-pub record Fits (work : List ℕ) : Type 0 where
+-- drafts of which none is longer than a session has places for
+pub record Fitting (work : List ℕ) : Type 0 where
   pub whole : length work ≡ workSize
   pub few : countOf work ≤ linksCap
   pub below : (i : ℕ) → i < countOf work → NoneBelow work (linkStart i)
@@ -18,8 +18,8 @@ pub record Fits (work : List ℕ) : Type 0 where
   pub short : (i : ℕ) → i < countOf work → lengthAt work i ≤ pieceRoom
 
 -- the session that the drafts become
-abbrev pub draftSession : ℕ → List ℕ → Session
-draftSession depth work = record { depth = depth; entries = draftsOf work }
+abbrev pub drafted : ℕ → List ℕ → Session
+drafted depth work = record { depth = depth; entries = draftsOf work }
 
 -- an entry of a list, or nothing behind its end, was put at its place
 abbrev pub PutFrom : List Entry → List ℕ → ℕ → List ℕ → Type 0

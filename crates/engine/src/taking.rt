@@ -2,28 +2,20 @@
 // once all have passed.
 use crate::write;
 use drafting::WORK;
-use growing::growth;
+use drafting::settle;
+use drafting::shake;
+use growing::growth::Growth;
+use growing::growth::grow;
+use numbers::Answer;
+use numbers::Number;
+use numbers::is_taken;
+use numbers::refused;
+use numbers::taken;
 use places::SIZE;
-ghost use Rattle.words.specs.Words.{Bytes};
-ghost use Rattle.table.specs.Good.{first, Good};
-ghost use Rattle.ending.specs.Finishing.{Ready};
-ghost use Rattle.engine.specs.Calls.{Answered};
-ghost use Rattle.engine.specs.Tests.{Opened, Grew, Left};
-
-// What `step` answers.
-pub enum Answer {
-    Taken { count: usize },
-    BadTable,
-    BadSession,
-    UnknownSymbol,
-    Unopened,
-    TooDeep,
-    NoRun,
-    Crowded,
-    Conflict,
-    Backlog,
-    NoRoom,
-}
+use table::Class;
+use words::send;
+ghost use Rattle.stepping.specs.Promises.{Proper, Answered};
+ghost use Rattle.engine.specs.Tests.{Opened, Opens, Drafting};
 
 // Takes one symbol.
 pub fn step(file: &[u8], session: &mut [u8; SIZE], symbol: u8, out: &mut [u8]) -> Answer
@@ -35,7 +27,8 @@ pub fn step(file: &[u8], session: &mut [u8; SIZE], symbol: u8, out: &mut [u8]) -
     step_in(file, session, symbol, out, &mut work)
 }
 
-// The same, in a room that the caller lends; what the room holds afterwards is not promised.
+// The same, in a room that the caller lends; what the room holds afterwards is not promised. A part that refuses gives
+// the step's own answer.
 pub fn step_in(
     file: &[u8],
     session: &mut [u8; SIZE],
@@ -47,139 +40,87 @@ pub fn step_in(
         Answered (now (file .entry)) (now (session .entry)) symbol (now (out .entry)) r
         (now (session .exit)) (now (out .exit)) ⌝ }
 {
-    match checking::check(file) {
-        checking::Verdict::BadTable => Answer::BadTable,
-        checking::Verdict::Taken => on_table(file, session, symbol, out, work),
+    let checked = checking::check(file);
+    if !is_taken(checked) {
+        return checked;
     }
-}
-
-// With a good table.
-fn on_table(
-    file: &[u8],
-    session: &mut [u8; SIZE],
-    symbol: u8,
-    out: &mut [u8],
-    work: &mut [u8; WORK],
-) -> Answer
-    requires { ⌜ (Good first (now file)) × Bytes (now file) ⌝ }
-    ensures { λ r. ⌜
-        Answered (now (file .entry)) (now (session .entry)) symbol (now (out .entry)) r
-        (now (session .exit)) (now (out .exit)) ⌝ }
-{
     if !session::sound(file, session) {
-        return Answer::BadSession;
+        return refused(Number::BadSession);
     }
-    on_session(file, session, symbol, out, work)
+    let admitted = admit(file, session, symbol);
+    if !is_taken(admitted) {
+        return admitted;
+    }
+    let depth = admitted.count;
+    let drafted = draft(file, session, symbol, depth, work);
+    if !is_taken(drafted) {
+        return drafted;
+    }
+    let settled = settle(work);
+    let at = settled.at;
+    let long = settled.length;
+    if table::waiting_cap(file) < settled.longest {
+        return refused(Number::Backlog);
+    }
+    if out.len() < long {
+        return refused(Number::NoRoom);
+    }
+    let all = &work[..];
+    send(out, &all[at..at + long]);
+    write::write(session, work, depth);
+    taken(long)
 }
 
-// And a sound session: the symbol's class, and whether the depth allows it.
-fn on_session(
-    file: &[u8],
-    session: &mut [u8; SIZE],
-    symbol: u8,
-    out: &mut [u8],
-    work: &mut [u8; WORK],
-) -> Answer
-    requires { ⌜ Ready (now file) (now session) ⌝ }
-    ensures { λ r. ⌜
-        Answered (now (file .entry)) (now (session .entry)) symbol (now (out .entry)) r
-        (now (session .exit)) (now (out .exit)) ⌝ }
+// Whether the symbol is known and the depth allows it; for a count, the depth that follows.
+fn admit(file: &[u8], session: &[u8; SIZE], symbol: u8) -> Answer
+    requires { ⌜ Proper (now file) (now session) ⌝ }
+    ensures { λ r. ⌜ Opens (now (file .entry)) (now (session .entry)) symbol r ⌝ }
 {
     let depth = places::depth(session);
     match table::class_of(file, symbol) {
-        table::Class::Unused => Answer::UnknownSymbol,
-        table::Class::Call => {
+        Class::Unused => refused(Number::UnknownSymbol),
+        Class::Call => {
             if depth == table::depth_cap(file) {
-                return Answer::TooDeep;
+                return refused(Number::TooDeep);
             }
-            on_open(file, session, symbol, depth + 1, out, work)
+            taken(depth + 1)
         }
-        table::Class::Return => {
+        Class::Return => {
             if depth == 0 {
-                return Answer::Unopened;
+                return refused(Number::Unopened);
             }
-            on_open(file, session, symbol, depth - 1, out, work)
+            taken(depth - 1)
         }
-        table::Class::Internal => on_open(file, session, symbol, depth, out, work),
+        Class::Internal => taken(depth),
     }
 }
 
-// And a symbol that may come: what follows each present link is drafted.
-fn on_open(
+// Drafts what follows each present link, with the links below that something stands on; whether there is a run, links
+// are few, and none clash.
+fn draft(
     file: &[u8],
-    session: &mut [u8; SIZE],
+    session: &[u8; SIZE],
     symbol: u8,
     depth: usize,
-    out: &mut [u8],
     work: &mut [u8; WORK],
 ) -> Answer
     requires { ⌜ Opened (now file) (now session) symbol depth ⌝ }
     ensures { λ r. ⌜
-        Answered (now (file .entry)) (now (session .entry)) symbol (now (out .entry)) r
-        (now (session .exit)) (now (out .exit)) ⌝ }
+        Drafting (now (file .entry)) (now (session .entry)) symbol depth (now (work .exit)) r ⌝ }
 {
-    match growth::grow(file, session, symbol, work) {
-        growth::Growth::Full => Answer::Crowded,
-        growth::Growth::Made { clash } => {
+    match grow(file, session, symbol, work) {
+        Growth::Full => refused(Number::Crowded),
+        Growth::Made { clash } => {
             if links::count(&work[..]) == 0 {
-                return Answer::NoRun;
+                return refused(Number::NoRun);
             }
-            on_grown(file, session, symbol, depth, out, work, clash)
+            if !shake(session, depth, work) {
+                return refused(Number::Crowded);
+            }
+            if clash {
+                return refused(Number::Conflict);
+            }
+            taken(0)
         }
     }
-}
-
-// And the links that follow are drafted: those below that they stand on join them.
-fn on_grown(
-    file: &[u8],
-    session: &mut [u8; SIZE],
-    symbol: u8,
-    depth: usize,
-    out: &mut [u8],
-    work: &mut [u8; WORK],
-    clash: bool,
-) -> Answer
-    requires { ⌜ Grew (now file) (now session) symbol depth (now work) clash ⌝ }
-    ensures { λ r. ⌜
-        Answered (now (file .entry)) (now (session .entry)) symbol (now (out .entry)) r
-        (now (session .exit)) (now (out .exit)) ⌝ }
-{
-    if !drafting::shake(session, depth, work) {
-        return Answer::Crowded;
-    }
-    if clash {
-        return Answer::Conflict;
-    }
-    on_shaken(file, session, symbol, depth, out, work)
-}
-
-// And none clash: what pieces have in common is handed down and cut. The last two tests; then the output and the session
-// are written.
-fn on_shaken(
-    file: &[u8],
-    session: &mut [u8; SIZE],
-    symbol: u8,
-    depth: usize,
-    out: &mut [u8],
-    work: &mut [u8; WORK],
-) -> Answer
-    requires { ⌜ Left (now file) (now session) symbol depth (now work) ⌝ }
-    ensures { λ r. ⌜
-        Answered (now (file .entry)) (now (session .entry)) symbol (now (out .entry)) r
-        (now (session .exit)) (now (out .exit)) ⌝ }
-{
-    let settled = drafting::settle(work);
-    let at = settled.at;
-    let long = settled.length;
-    if table::waiting_cap(file) < settled.longest {
-        return Answer::Backlog;
-    }
-    if out.len() < long {
-        return Answer::NoRoom;
-    }
-    let end = at + long;
-    let room = &work[..];
-    ending::send(out, &room[at..end]);
-    write::write(session, work, depth);
-    Answer::Taken { count: long }
 }

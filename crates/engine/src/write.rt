@@ -4,43 +4,41 @@ use places::SIZE;
 use words::larger;
 ghost use mathlib.Core.Path.{_≡_};
 ghost use Prim.Native.Nat.{ℕ, _≤_, _<_};
-ghost use Rattle.standing.specs.Bytes.{Kept, countOf, bytesOf};
+ghost use Rattle.standing.specs.Bytes.{Kept, bytesOf};
 ghost use Rattle.standing.specs.Numbers.{Tidy};
 ghost use Rattle.drafting.specs.Drafts.{draftsOf};
-ghost use Rattle.engine.specs.Writing.{Fits, draftSession, PutFrom, Written};
+ghost use Rattle.engine.specs.Writing.{Fitting, drafted, PutFrom, Written};
 
-// The drafts become the session. Places that only the one before used are set to 0, and no others are: most places of a
-// session are not used.
+// The drafts become the session. Places that only the one before used are set to 0, and no others are: most places of
+// a session are not used.
 pub fn write(session: &mut [u8; SIZE], work: &[u8; WORK], depth: usize)
-    requires { ⌜ Kept (now session) × Fits (now work) × (depth < 256) ⌝ }
-    ensures { λ _. ⌜ now (session .exit) ≡ bytesOf (draftSession depth (now (work .entry))) ⌝ }
+    requires { ⌜ Kept (now session) × Fitting (now work) × (depth < 256) ⌝ }
+    ensures { λ _. ⌜ now (session .exit) ≡ bytesOf (drafted depth (now (work .entry))) ⌝ }
 {
     let n = links::count(&work[..]);
-    let end = larger(n, places::count(session));
-    write_places(session, work, n, end);
+    let end = larger(n, links::count(&session[..]));
+    write_places(session, work, end);
     links::set_head(&mut session[..], depth, n);
 }
 
 // The places below `end`, one after the other.
-fn write_places(session: &mut [u8; SIZE], work: &[u8; WORK], n: usize, end: usize)
-    requires { ⌜ (end ≤ 64) × ((i : ℕ) → i < end → Tidy (now session) i) ⌝ }
-    requires { ⌜ Fits (now work) × (n ≡ countOf (now work)) ⌝ }
+fn write_places(session: &mut [u8; SIZE], work: &[u8; WORK], end: usize)
+    requires { ⌜ (end ≤ 64) × ((i : ℕ) → i < end → Tidy (now session) i) × Fitting (now work) ⌝ }
     ensures { λ _. ⌜ Written (draftsOf (now (work .entry))) (now (session .entry)) end (now (session .exit)) ⌝ }
 {
     let mut p: usize = 0;
     while p < end {
-        write_place(session, work, n, p);
+        write_place(session, work, p);
         p += 1;
     }
 }
 
 // One place: the draft that comes there, or nothing.
-fn write_place(session: &mut [u8; SIZE], work: &[u8; WORK], n: usize, p: usize)
-    requires { ⌜ (p < 64) × Tidy (now session) p ⌝ }
-    requires { ⌜ Fits (now work) × (n ≡ countOf (now work)) ⌝ }
+fn write_place(session: &mut [u8; SIZE], work: &[u8; WORK], p: usize)
+    requires { ⌜ (p < 64) × Tidy (now session) p × Fitting (now work) ⌝ }
     ensures { λ _. ⌜ PutFrom (draftsOf (now (work .entry))) (now (session .entry)) p (now (session .exit)) ⌝ }
 {
-    if n <= p {
+    if links::count(&work[..]) <= p {
         places::clear_entry(session, p);
         return;
     }

@@ -18,7 +18,8 @@ use Rattle.table.specs.Calls.{FirstRow}
 use Rattle.table.proofs.Symbols.{none-before}
 use Rattle.table.proofs.Stands.{rows-of}
 use Rattle.standing.specs.Sessions.{Entry, entry}
-use Rattle.standing.specs.Bytes.{pair, linkStart, pieceRoom, countOf, lengthAt, linkAt, pieceAt, entryAt, sessionOf, Kept}
+use Rattle.standing.specs.Bytes.{pair, linkStart, pieceRoom, countOf, lengthAt, linkAt, pieceAt, entryAt, sessionOf}
+use Rattle.standing.specs.Bytes.{Kept}
 use Rattle.standing.specs.Numbers.{seatAt, footAt}
 use Rattle.standing.proofs.Feet.{stands-foot}
 use Rattle.stepping.specs.Stepping.{seat, hasFoot, movedTo, fitsLink, follow, takes, grow}
@@ -27,7 +28,8 @@ use Rattle.links.specs.Heads.{meant, Read}
 use Rattle.links.proofs.Linked.{read-meant}
 use Rattle.drafting.specs.Drafts.{draftRoom, Plain, Clean}
 use Rattle.drafting.proofs.Rooms.{clean-read}
-use Rattle.growing.specs.Growing.{Grown, Gathers, Made, Usable, Fitting, after, lowered, uncovered, byClass, byRow}
+use Rattle.growing.specs.Growing.{Grown, Gathers, Made, Usable, Fitting, after, lowered, uncovered, byClass}
+use Rattle.growing.specs.Growing.{byRow}
 use Rattle.growing.specs.Growing.{byRows}
 use Rattle.growing.specs.declared.growth.Growth.{Growth}
 use Rattle.stepping.proofs.Feet.{seat-stands}

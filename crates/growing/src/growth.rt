@@ -66,7 +66,8 @@ fn moved(session: &[u8; SIZE], i: usize, state: usize) -> Link
 
 // A link one level up that stands on the pair of a session's link.
 fn over(session: &[u8; SIZE], i: usize, state: usize, marker: usize) -> Link
-    requires { ⌜ (Kept (now session)) × (i < countOf (now session)) × Plain (on state marker (linkAt (now session) i)) ⌝ }
+    requires { ⌜ (Kept (now session)) × (i < countOf (now session)) ×
+        Plain (on state marker (linkAt (now session) i)) ⌝ }
     ensures { λ r. ⌜ Made (on state marker (linkAt (now (session .entry)) i)) r ⌝ }
 {
     let old = links::read(&session[..], i);

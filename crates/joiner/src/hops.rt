@@ -115,25 +115,26 @@ pub fn join_in(
     if !nests(first, second) {
         return refused(Number::NotNested);
     }
+    let too_large = refused(Number::TooLarge);
     if long_words(first) {
-        return refused(Number::TooLarge);
+        return too_large;
     }
     if 64 < table::states(first) * table::states(second) {
-        return refused(Number::TooLarge);
+        return too_large;
     }
     let Shelf::Made {
         count: markers,
         used: _,
     } = gather(first, second, Wanted::Marks, rows, marks, tape)
     else {
-        return refused(Number::TooLarge);
+        return too_large;
     };
     if 64 < markers {
-        return refused(Number::TooLarge);
+        return too_large;
     }
     let wanted = Wanted::Rows { count: markers };
     let Shelf::Made { count, used } = gather(first, second, wanted, marks, rows, tape) else {
-        return refused(Number::TooLarge);
+        return too_large;
     };
     lay(first, second, out, markers, rows, count, used)
 }

@@ -11,7 +11,6 @@ use words::wide;
 ghost use mathlib.Core.Path.{_≡_};
 ghost use mathlib.Core.List.{[], _∷_, reverse};
 ghost use Prim.Native.Nat.{_+_, _<_, _≤_};
-ghost use lib.ListN.{length};
 ghost use Rattle.words.specs.Lists.{each};
 ghost use Rattle.meaning.specs.Table.{return};
 ghost use Rattle.meaning.specs.Runs.{config};
@@ -249,7 +248,7 @@ fn branch(
     made
 }
 
-// All endings of the runs over a word, from a cursor. The stack and what was written before are left as they were.
+// All endings of the runs over a word, from a cursor: by each row of its first byte from the state. The stack and what was written before are left as they were.
 pub fn read(
     second: &[u8],
     word: &[u8],
@@ -284,30 +283,6 @@ pub fn read(
             shelf,
         );
     }
-    read_on(second, word, cursor, goal, marks, rows, tape, shelf)
-}
-
-// The same of a word that is not empty, by each row of its first byte from the state.
-fn read_on(
-    second: &[u8],
-    word: &[u8],
-    cursor: Cursor,
-    goal: Goal,
-    marks: &[u8; SHELF],
-    rows: &mut [u8; SHELF],
-    tape: &mut [u8; TAPE],
-    shelf: Shelf,
-) -> Shelf
-    requires { ⌜ (Reads (now second) cursor (now word)) × (0 < length (now word)) ⌝ }
-    requires { ⌜ Ranked (now marks) goal ⌝ }
-    requires { ⌜ Suited (marksOf (now marks) goal) goal
-        (endings (tableOf (now second)) (now word) (configOf cursor (now tape))) ⌝ }
-    requires { ⌜ Ready (now rows) shelf ⌝ }
-    ensures { λ a. ⌜ Gathers (findings (now (second .entry)) (marksOf (now (marks .entry)) goal) goal
-        (now (word .entry)) (configOf cursor (now (tape .entry))))
-        (now (rows .entry)) shelf a (now (rows .exit)) ⌝ }
-    ensures { λ _. ⌜ Untouched (now (tape .entry)) (cursor .end) (now (tape .exit)) ⌝ }
-{
     let symbol = word[0];
     let rest = &word[1..];
     let class = table::class_of(second, symbol);

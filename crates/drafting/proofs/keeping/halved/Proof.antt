@@ -1,11 +1,8 @@
-use mathlib.Core.Path.{_≡_, refl, sym, ap, _∙_}
-use mathlib.Core.Logic.{inl, inr, ⊎-elim}
-use Prim.Native.Nat.{ℕ, _+_, _-_, _*_, _≤_, _<_}
-use lib.ListN.{length, take, drop, getD, set, length-set}
+-- `drafting::keeping::halved` meets its contract. Assumes nothing.
+use mathlib.Core.Path.{_≡_}
+use Prim.Native.Nat.{ℕ, _+_, _-_, _≤_, _<_}
 use native.Mathlib.Omega.{arith}
-use native.Mathlib.Numerals.{add-one}
 use Prim.Native.Nat.{_/_}
-use mathlib.Core.List.{List}
 use Rattle.standing.specs.Numbers.{keyAt}
 use Rattle.links.specs.Heads.{keyOf}
 use Rattle.drafting.proofs.Turns.{Beneath, beneath-none, beneath-upto, beneath-place, not-below}
@@ -13,9 +10,6 @@ use Rattle.drafting.proofs.Putting.{keys-rise}
 use borrow.Author.Needs.{needs}
 use Rattle.drafting.proofs.keeping.halved.Statement.{statement}
 use Rattle.drafting.proofs.keeping.halved.Tie as tie
-use Rattle.drafting.proofs.keeping.halved.Reads as reads
-use Rattle.drafting.proofs.keeping.halved.Lts as lts
-use Rattle.drafting.proofs.keeping.is_below.Reads as is-below-reads
 
 abbrev Inv-loop : tie.InvT-loop
 Inv-loop work n link low₀ high₀ low high =
@@ -24,35 +18,20 @@ Inv-loop work n link low₀ high₀ low high =
 abbrev μ-loop : tie.MeasureT-loop
 μ-loop work n link low₀ high₀ low high = high - low
 
--- src/keeping.rt:100:5
 loop-holds : tie.Need-loop-holds Inv-loop μ-loop
-loop-holds c = (omega arith, omega arith, omega (arith, c .pre .0 .few, c .pre .2), beneath-none, λ h. absurd (omega arith))
+loop-holds c = (
+  omega arith,
+  omega arith,
+  omega (arith, c .pre .0 .few, c .pre .2),
+  beneath-none,
+  λ h. absurd
+      (omega arith),
+)
 
--- src/keeping.rt:101:29
 -- the place that is looked at
 abbrev middle : (c : tie.In-loop Inv-loop μ-loop) → ℕ
 middle c = let l = c .before .loop in l .low + (l .high - l .low) / 2
 
-sub-middle : tie.Need-sub-middle Inv-loop μ-loop
-sub-middle c = search needs
-
--- src/keeping.rt:101:22
-add-middle : tie.Need-add-middle Inv-loop μ-loop
-add-middle c = omega arith
-
--- src/keeping.rt:102:12
-is-below-requires : tie.Need-is-below-requires Inv-loop μ-loop
-is-below-requires c κs = omega arith
-
--- src/keeping.rt:103:19
-add-low : tie.Need-add-low Inv-loop μ-loop
-add-low c = omega arith
-
--- src/keeping.rt:100:5
-loop-less : tie.Need-loop-less Inv-loop μ-loop
-loop-less c = search needs
-
--- src/keeping.rt:100:5
 loop-again : tie.Need-loop-again Inv-loop μ-loop
 loop-again c =
     let in-loop = c .before .before in
@@ -66,11 +45,6 @@ loop-again c =
       inv .4,
     )
 
--- src/keeping.rt:100:5
-loop-less-2 : tie.Need-loop-less-2 Inv-loop μ-loop
-loop-less-2 c = search needs
-
--- src/keeping.rt:100:5
 loop-again-2 : tie.Need-loop-again-2 Inv-loop μ-loop
 loop-again-2 c =
     let inv = c .before .before .before .loop .inv in (
@@ -81,7 +55,6 @@ loop-again-2 c =
       λ h. not-below (c .before .is-below .ensures) (c .if1 .left),
     )
 
--- src/keeping.rt:94:1
 returns : tie.Need-returns Inv-loop μ-loop
 returns c =
     let inv = c .before .loop .inv in
@@ -95,12 +68,12 @@ halved-spec =
     Inv-loop
     μ-loop
     loop-holds
-    sub-middle
-    add-middle
-    is-below-requires
-    add-low
-    loop-less
+    (λ c. search needs)
+    (λ c. omega arith)
+    (λ c κs. omega arith)
+    (λ c. omega arith)
+    (λ c. search needs)
     loop-again
-    loop-less-2
+    (λ c. search needs)
     loop-again-2
     returns)

@@ -1,47 +1,24 @@
-use mathlib.Core.Path.{_≡_, refl, sym, ap, _∙_}
-use mathlib.Core.Logic.{inl, inr, ⊎-elim}
-use Prim.Native.Nat.{ℕ, _+_, _-_, _*_, _≤_, _<_}
-use lib.ListN.{length, take, drop, getD, set, length-set}
+-- `drafting::keeping::is_below` meets its contract. Assumes nothing.
+use Prim.Native.Nat.{_-_}
 use native.Mathlib.Omega.{arith}
-use native.Mathlib.Numerals.{add-one}
 use Rattle.words.proofs.Exact.{yes-exact, no-exact}
 use Rattle.drafting.proofs.Turns.{told-before, told-same, told-after}
 use borrow.Author.Needs.{needs}
 use Rattle.drafting.proofs.keeping.is_below.Statement.{statement}
 use Rattle.drafting.proofs.keeping.is_below.Tie as tie
-use Rattle.drafting.proofs.keeping.is_below.Reads as reads
-use Rattle.drafting.proofs.keeping.is_below.Lts as lts
-use Rattle.links.proofs.compare.Reads as compare-reads
 
--- src/keeping.rt:72:11
-compare-requires : tie.Need-compare-requires
-compare-requires c κs = search needs
-
--- src/keeping.rt:73:26
-enum-told : tie.Need-enum-told
-enum-told c = search needs
-
--- src/keeping.rt:74:24
-enum-told-2 : tie.Need-enum-told-2
-enum-told-2 c = search needs
-
--- src/keeping.rt:75:25
-enum-told-3 : tie.Need-enum-told-3
-enum-told-3 c = search needs
-
--- src/keeping.rt:68:1
 returns : tie.Need-returns
 returns c = yes-exact (told-before (c .before .before .compare .ensures) (c .enum-told .given .1))
 
--- src/keeping.rt:68:1
 returns-2 : tie.Need-returns-2
-returns-2 c = no-exact (λ h. let s = told-same (c .before .before .compare .ensures) (c .enum-told2 .given .1) in omega arith)
+returns-2 c = no-exact (λ h. let s = told-same (c .before .before .compare .ensures)
+    (c .enum-told2 .given .1) in omega arith)
 
--- src/keeping.rt:68:1
 returns-3 : tie.Need-returns-3
-returns-3 c = no-exact (λ h. let s = told-after (c .before .before .compare .ensures) (c .enum-told3 .given .1) in omega arith)
+returns-3 c = no-exact (λ h. let s = told-after (c .before .before .compare .ensures)
+    (c .enum-told3 .given .1) in omega arith)
 
 pub is-below-spec : {M : Type 1} → statement M
 is-below-spec =
     tie.close
-    (tie.spec compare-requires enum-told enum-told-2 enum-told-3 returns returns-2 returns-3)
+    (tie.spec (λ c κs. search needs) (λ c. search needs) (λ c. search needs) (λ c. search needs) returns returns-2 returns-3)

@@ -1,10 +1,8 @@
-use mathlib.Core.Path.{_≡_, refl, sym, ap, ap₂, subst, _∙_}
-use mathlib.Core.Logic.{inl, inr, ⊎-elim}
-use mathlib.Core.List.{List}
-use Prim.Native.Nat.{ℕ, _+_, _-_, _*_, _≤_, _<_}
-use lib.ListN.{length, take, drop, getD, set, length-set}
+-- `drafting::keeping::put` meets its contract. Assumes nothing.
+use mathlib.Core.Path.{_≡_, sym, _∙_}
+use mathlib.Core.Logic.{⊎-elim}
+use Prim.Native.Nat.{_+_, _-_, _≤_, _<_}
 use native.Mathlib.Omega.{arith}
-use native.Mathlib.Numerals.{add-one}
 use mathlib.Core.Bool.{false≢true}
 use mathlib.Core.List.{_++_}
 use lib.ListN.{length-append}
@@ -18,20 +16,7 @@ use Rattle.drafting.proofs.Putting.{same-piece, other-piece, no-slot, p
 use borrow.Author.Needs.{needs}
 use Rattle.drafting.proofs.keeping.put.Statement.{statement}
 use Rattle.drafting.proofs.keeping.put.Tie as tie
-use Rattle.drafting.proofs.keeping.put.Reads as reads
-use Rattle.drafting.proofs.keeping.put.Lts as lts
-use Rattle.drafting.proofs.keeping.is_here.Reads as is-here-reads
-use Rattle.drafting.proofs.keeping.place.Reads as place-reads
-use Rattle.drafting.proofs.keeping.same_piece.Reads as same-piece-reads
-use Rattle.drafting.proofs.moving.lift.Reads as lift-reads
-use Rattle.drafting.proofs.room.fill.Reads as fill-reads
-use Rattle.drafting.proofs.room.piece.Reads as piece-reads
-use Rattle.drafting.proofs.room.set_count.Reads as set-count-reads
-use Rattle.drafting.proofs.room.slot.Reads as slot-reads
-use Rattle.drafting.proofs.room.write.Reads as write-reads
-use Rattle.links.proofs.count.Reads as count-reads
 
--- src/keeping.rt:34:9
 -- where the place is known
 abbrev begin : tie.After-place → tie.Start
 begin c = c .before .before .before .before .before .before .before .before
@@ -51,29 +36,12 @@ new : (c : tie.Joined1) → c .before .place .result < c .before .before .before
 new c h e =
     ⊎-elim (λ w. false≢true (sym (w .3 .left) ∙ w .2 .ensures .0 e)) (λ w. omega arith) (c .if1 .came)
 
-count-requires : tie.Need-count-requires
-count-requires c κs = search needs
-
--- src/keeping.rt:35:9
-place-requires : tie.Need-place-requires
-place-requires c κs = search needs
-
--- src/keeping.rt:37:12
-is-here-requires : tie.Need-is-here-requires
-is-here-requires c κs = search needs
-
--- src/keeping.rt:38:27
 piece-requires : tie.Need-piece-requires
 piece-requires c κs =
     let place = c .before .before .before .before .before in
     let lt = c .before .before .before .before .if1 .taken in
     (omega (arith, few place), draft-lies (begin place .pre .0 .0) _ (omega (arith, all place)))
 
--- src/keeping.rt:38:16
-same-piece-requires : tie.Need-same-piece-requires
-same-piece-requires c κs = search needs
-
--- src/keeping.rt:39:17
 returns : tie.Need-returns
 returns c =
     let same = c .before in
@@ -89,7 +57,6 @@ returns c =
           (sym (piece .piece .ensures) ∙ same .same-piece .ensures .1 (c .if3 .taken));
     }
 
--- src/keeping.rt:41:13
 returns-2 : tie.Need-returns-2
 returns-2 c =
     let same = c .before in
@@ -105,7 +72,6 @@ returns-2 c =
           (λ e. false≢true (sym (c .if3 .left) ∙ same .same-piece .ensures .0 (piece .piece .ensures ∙ e)));
     }
 
--- src/keeping.rt:45:9
 returns-3 : tie.Need-returns-3
 returns-3 c =
     let place = c .before .before in
@@ -116,23 +82,6 @@ returns-3 c =
           (c .if4 .taken) _;
     }
 
--- src/keeping.rt:47:9
-slot-requires : tie.Need-slot-requires
-slot-requires c κs = search needs
-
--- src/keeping.rt:48:16
-add-long : tie.Need-add-long
-add-long c = search needs
-
--- src/keeping.rt:48:16
-add-long-2 : tie.Need-add-long-2
-add-long-2 c = search needs
-
--- src/keeping.rt:49:5
-fill-requires : tie.Need-fill-requires
-fill-requires c κs = search needs
-
--- src/keeping.rt:50:5
 lift-requires : tie.Need-lift-requires
 lift-requires c κs =
     let else4 = c .before .before .before .before in
@@ -140,7 +89,6 @@ lift-requires c κs =
     let w = place .place .ensures .within in
     (w, omega (arith, few place, all place, else4 .if4 .left), c .before .fill .ensures .1)
 
--- src/keeping.rt:51:5
 write-requires : tie.Need-write-requires
 write-requires c κs =
     let lift = c .before in
@@ -157,15 +105,6 @@ write-requires c κs =
       (lift .lift .ensures .rest .small (fill .fill .ensures .1), clean-bytes (begin place .pre .0 .2)),
     )
 
--- src/keeping.rt:52:27
-add-set-count : tie.Need-add-set-count
-add-set-count c = search needs
-
--- src/keeping.rt:52:5
-set-count-requires : tie.Need-set-count-requires
-set-count-requires c κs = search needs
-
--- src/keeping.rt:28:1
 returns-4 : tie.Need-returns-4
 returns-4 c =
     let write = c .before .before in
@@ -178,7 +117,8 @@ returns-4 c =
     record {
       became =
           placed (pre .0) (pre .1) (all place) (pre .2) (place .place .ensures) (parts place) (new (else4 .before))
-          (omega (arith, few place, all place, else4 .if4 .left)) (simp length-append (omega (arith, begin place .pre .1)))
+          (omega (arith, few place, all place, else4 .if4 .left))
+          (simp length-append (omega (arith, begin place .pre .1)))
           (simp length-append (omega arith)) (slot .slot .ensures .0) (fill .fill .ensures .0) (lift .lift .ensures)
           (write .write .ensures) (c .set-count .ensures) (fill .fill .ensures .1);
     }
@@ -187,20 +127,20 @@ pub put-spec : {M : Type 1} → statement M
 put-spec =
     tie.close
     (tie.spec
-    count-requires
-    place-requires
-    is-here-requires
+    (λ c κs. search needs)
+    (λ c κs. search needs)
+    (λ c κs. search needs)
     piece-requires
-    same-piece-requires
+    (λ c κs. search needs)
     returns
     returns-2
     returns-3
-    slot-requires
-    add-long
-    add-long-2
-    fill-requires
+    (λ c κs. search needs)
+    (λ c. search needs)
+    (λ c. search needs)
+    (λ c κs. search needs)
     lift-requires
     write-requires
-    add-set-count
-    set-count-requires
+    (λ c. search needs)
+    (λ c κs. search needs)
     returns-4)

@@ -17,23 +17,11 @@ abbrev μ-loop : tie.MeasureT-loop
 loop-holds : tie.Need-loop-holds Inv-loop μ-loop
 loop-holds c = (search needs, written-none _ _)
 
-add-work : tie.Need-add-work Inv-loop μ-loop
-add-work c = search needs
-
 slice-read-work : tie.Need-slice-read-work Inv-loop μ-loop
 slice-read-work c = omega (arith, c .before .before .loop .inv .1 .whole)
 
-add-work-2 : tie.Need-add-work-2 Inv-loop μ-loop
-add-work-2 c = search needs
-
 slice-write-work : tie.Need-slice-write-work Inv-loop μ-loop
 slice-write-work c = omega (arith, c .before .before .loop .inv .1 .whole)
-
-add-i : tie.Need-add-i Inv-loop μ-loop
-add-i c = search needs
-
-loop-less : tie.Need-loop-less Inv-loop μ-loop
-loop-less c = search needs
 
 loop-again : tie.Need-loop-again Inv-loop μ-loop
 loop-again c =
@@ -58,12 +46,12 @@ copy-within-spec =
     Inv-loop
     μ-loop
     loop-holds
-    add-work
+    (λ c. search needs)
     slice-read-work
-    add-work-2
+    (λ c. search needs)
     slice-write-work
-    add-i
-    loop-less
+    (λ c. search needs)
+    (λ c. search needs)
     loop-again
     same-length
     returns)

@@ -1,9 +1,7 @@
-use mathlib.Core.Path.{_≡_, refl, sym, ap, _∙_}
-use mathlib.Core.Logic.{inl, inr, ⊎-elim}
-use Prim.Native.Nat.{ℕ, _+_, _-_, _*_, _≤_, _<_}
-use lib.ListN.{length, take, drop, getD, set, length-set}
+-- `drafting::settling::cut` meets its contract. Assumes nothing.
+use mathlib.Core.Path.{_≡_}
+use Prim.Native.Nat.{_-_, _≤_}
 use native.Mathlib.Omega.{arith}
-use native.Mathlib.Numerals.{add-one}
 use Rattle.standing.specs.Bytes.{countOf}
 use Rattle.drafting.specs.Drafts.{CutTo}
 use Rattle.drafting.proofs.Pushing.{same-levelled, same-count}
@@ -11,11 +9,6 @@ use Rattle.drafting.proofs.Cut.{cut-start, turn-fits, turn-next}
 use borrow.Author.Needs.{needs}
 use Rattle.drafting.proofs.settling.cut.Statement.{statement}
 use Rattle.drafting.proofs.settling.cut.Tie as tie
-use Rattle.drafting.proofs.settling.cut.Reads as reads
-use Rattle.drafting.proofs.settling.cut.Lts as lts
-use Rattle.drafting.proofs.settling.cut_by.Reads as cut-by-reads
-use Rattle.drafting.proofs.settling.cut_one.Reads as cut-one-reads
-use Rattle.links.proofs.count.Reads as count-reads
 
 abbrev Inv-loop : tie.InvT-loop
 Inv-loop work₀ starts sent n i₀ work i = (i ≤ n) × (n ≡ countOf work₀) × (n ≤ 64) × CutTo work₀ i work
@@ -23,11 +16,6 @@ Inv-loop work₀ starts sent n i₀ work i = (i ≤ n) × (n ≡ countOf work₀
 abbrev μ-loop : tie.MeasureT-loop
 μ-loop work₀ starts sent n i₀ work i = n - i
 
--- src/settling.rt:138:9
-count-requires : tie.Need-count-requires Inv-loop μ-loop
-count-requires c κs = search needs
-
--- src/settling.rt:140:5
 loop-holds : tie.Need-loop-holds Inv-loop μ-loop
 loop-holds c =
     let start = c .before .before .before in
@@ -35,7 +23,6 @@ loop-holds c =
     let e = c .count .ensures .0 .0 in
     (omega arith, e, omega (arith, d .few), cut-start _)
 
--- src/settling.rt:141:13
 abbrev begin : tie.At-loop Inv-loop μ-loop → tie.Start Inv-loop μ-loop
 begin c = c .before .before .before .before
 
@@ -46,7 +33,6 @@ cut-by-requires c κs =
     let l = inv .3 .links in
     (same-levelled l (begin at-loop .pre .1), omega (arith, same-count l))
 
--- src/settling.rt:142:9
 cut-one-requires : tie.Need-cut-one-requires Inv-loop μ-loop
 cut-one-requires c κs =
     let cut-by = c .before in
@@ -55,15 +41,6 @@ cut-one-requires c κs =
     let fits = turn-fits (pre .0) (pre .1) (at-loop .loop .inv .3) (omega arith) (cut-by .cut-by .ensures) in
     (omega arith, fits .0, fits .1)
 
--- src/settling.rt:143:9
-add-i : tie.Need-add-i Inv-loop μ-loop
-add-i c = search needs
-
--- src/settling.rt:140:5
-loop-less : tie.Need-loop-less Inv-loop μ-loop
-loop-less c = search needs
-
--- src/settling.rt:140:5
 loop-again : tie.Need-loop-again Inv-loop μ-loop
 loop-again c =
     let cut-by = c .before .before in
@@ -76,7 +53,6 @@ loop-again c =
       turn-next (pre .0) (pre .1) (inv .3) (omega arith) (cut-by .cut-by .ensures) (c .cut-one .ensures),
     )
 
--- src/settling.rt:134:1
 returns : tie.Need-returns Inv-loop μ-loop
 returns c =
     let inv = c .before .loop .inv in
@@ -89,11 +65,11 @@ cut-spec =
     (tie.spec
     Inv-loop
     μ-loop
-    count-requires
+    (λ c κs. search needs)
     loop-holds
     cut-by-requires
     cut-one-requires
-    add-i
-    loop-less
+    (λ c. search needs)
+    (λ c. search needs)
     loop-again
     returns)

@@ -1,50 +1,21 @@
-use mathlib.Core.Path.{_≡_, refl, sym, ap, ap₂, subst, _∙_}
-use mathlib.Core.Logic.{inl, inr, ⊎-elim}
-use mathlib.Core.List.{List}
-use Prim.Native.Nat.{ℕ, _+_, _-_, _*_, _≤_, _<_}
-use lib.ListN.{length, take, drop, getD, set, length-set}
+-- `drafting::settling::push_one` meets its contract. Assumes nothing.
+use mathlib.Core.Path.{_≡_, ap, _∙_}
+use Prim.Native.Nat.{ℕ, _+_, _-_}
+use lib.ListN.{length}
 use native.Mathlib.Omega.{arith}
-use native.Mathlib.Numerals.{add-one}
 use Rattle.links.specs.Heads.{withLength}
 use Rattle.links.proofs.Levelled.{seat-low}
 use Rattle.drafting.proofs.Pushing.{endOf, has-room, end-fits, disjoint, pushed-one}
 use borrow.Author.Needs.{needs}
 use Rattle.drafting.proofs.settling.push_one.Statement.{statement}
 use Rattle.drafting.proofs.settling.push_one.Tie as tie
-use Rattle.drafting.proofs.settling.push_one.Reads as reads
-use Rattle.drafting.proofs.settling.push_one.Lts as lts
-use Rattle.drafting.proofs.room.set_handed.Reads as set-handed-reads
-use Rattle.drafting.proofs.room.start.Reads as start-reads
-use Rattle.drafting.proofs.settling.common_on.Reads as common-on-reads
-use Rattle.drafting.proofs.settling.copy_within.Reads as copy-within-reads
-use Rattle.links.proofs.long.Reads as long-reads
-use Rattle.links.proofs.seat.Reads as seat-reads
-use Rattle.links.proofs.set_length.Reads as set-length-reads
 
--- src/settling.rt:84:9
-seat-requires : tie.Need-seat-requires
-seat-requires c κs = search needs
-
--- src/settling.rt:85:9
 common-on-requires : tie.Need-common-on-requires
 common-on-requires c κs =
     let seat = c .before in
     let pre = seat .before .before .before .pre .0 in
     (pre .0, pre .1, seat-low (pre .1) _ (pre .2) (seat .seat .ensures))
 
--- src/settling.rt:88:9
-long-requires : tie.Need-long-requires
-long-requires c κs = search needs
-
--- src/settling.rt:89:15
-start-requires : tie.Need-start-requires
-start-requires c κs = search needs
-
--- src/settling.rt:89:15
-add-end : tie.Need-add-end
-add-end c = search needs
-
--- src/settling.rt:90:5
 copy-within-requires : tie.Need-copy-within-requires
 copy-within-requires c κs =
     let start = c .before in
@@ -54,18 +25,14 @@ copy-within-requires c κs =
     let pre = seat .before .before .before .pre in
     let on = common .common-on .ensures in
     let at = seat .seat .ensures in
-    let e : start .start .result + long .long .result ≡ endOf (seat .before .before .before .args .work .now) (seat .before .before .before .args .i) =
+    let e : start .start .result + long .long .result ≡ endOf (seat .before .before .before .args .work .now)
+    (seat .before .before .before .args .i) =
     omega (arith, start .start .ensures .0, long .long .ensures .0) in
     let fits = end-fits (pre .0 .0) (pre .0 .1) (pre .0 .2) at on (pre .1) in (
       (omega (arith, on .lies), omega arith),
       rw e (disjoint (pre .0 .0) (pre .0 .1) (pre .0 .2) at on (pre .1)),
     )
 
--- src/settling.rt:91:41
-add-set-length : tie.Need-add-set-length
-add-set-length c = search needs
-
--- src/settling.rt:91:5
 set-length-requires : tie.Need-set-length-requires
 set-length-requires c κs =
     let copy = c .before in
@@ -75,17 +42,19 @@ set-length-requires c κs =
     let seat = common .before .before in
     let pre = seat .before .before .before .pre in
     let room =
-    has-room (pre .0 .0) (pre .0 .1) (pre .0 .2) (seat .seat .ensures) (common .common-on .ensures) (pre .1) in
-    (omega (arith, copy .copy-within .ensures .whole), omega (arith, pre .0 .0 .few), omega (arith, long .long .ensures .0))
+    has-room (pre .0 .0) (pre .0 .1) (pre .0 .2) (seat .seat .ensures) (common .common-on .ensures) (pre .1) in (
+      omega (arith, copy .copy-within .ensures .whole),
+      omega (arith, pre .0 .0 .few),
+      omega
+          (arith, long .long .ensures .0),
+    )
 
--- src/settling.rt:92:5
 set-handed-requires : tie.Need-set-handed-requires
 set-handed-requires c κs =
     let common = c .before .before .before .before .before .before .before .before .before .before in
     let pre = common .before .before .before .before .before .pre in
     (omega (arith, pre .0 .0 .few, pre .0 .2), omega (arith, common .common-on .ensures .short))
 
--- src/settling.rt:79:1
 returns : tie.Need-returns
 returns c =
     let set-length = c .before .before in
@@ -110,13 +79,13 @@ pub push-one-spec : {M : Type 1} → statement M
 push-one-spec =
     tie.close
     (tie.spec
-    seat-requires
+    (λ c κs. search needs)
     common-on-requires
-    long-requires
-    start-requires
-    add-end
+    (λ c κs. search needs)
+    (λ c κs. search needs)
+    (λ c. search needs)
     copy-within-requires
-    add-set-length
+    (λ c. search needs)
     set-length-requires
     set-handed-requires
     returns)

@@ -8,9 +8,6 @@ use borrow.Author.Needs.{needs}
 use Rattle.growing.proofs.growth.by_row.Statement.{statement}
 use Rattle.growing.proofs.growth.by_row.Tie as tie
 
-fits-requires : tie.Need-fits-requires
-fits-requires c κs = search needs
-
 fitted : (c : tie.Then1)
     → let a = c .before .before .before .args in
     after (a .file .now) (a .session .now) (meant (a .class)) (a .i) (a .r)
@@ -37,4 +34,4 @@ returns-2 c =
     (c .before .fits2 .ensures) (c .if1 .left))
 
 pub by-row-spec : {M : Type 1} → statement M
-by-row-spec = tie.close (tie.spec fits-requires follow-requires returns returns-2)
+by-row-spec = tie.close (tie.spec (λ c κs. search needs) follow-requires returns returns-2)

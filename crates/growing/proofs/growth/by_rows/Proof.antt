@@ -19,28 +19,10 @@ Inv-loop file session symbol i work₀ class n state grown₀ r₀ work grown r 
 abbrev μ-loop : tie.MeasureT-loop
 μ-loop file session symbol i work₀ class n state grown₀ r₀ work grown r = n - r
 
-level-requires : tie.Need-level-requires Inv-loop μ-loop
-level-requires c κs = search needs
-
-depth-requires : tie.Need-depth-requires Inv-loop μ-loop
-depth-requires c κs = search needs
-
 returns : tie.Need-returns Inv-loop μ-loop
 returns c =
     let a = c .before .before .before .before .args in
     gathers-as gathers-none (rows-none (a .file .now) (a .session .now) (a .symbol) (a .i) (λ e. omega arith))
-
-class-of-requires : tie.Need-class-of-requires Inv-loop μ-loop
-class-of-requires c κs = search needs
-
-row-count-requires : tie.Need-row-count-requires Inv-loop μ-loop
-row-count-requires c κs = search needs
-
-state-requires : tie.Need-state-requires Inv-loop μ-loop
-state-requires c κs = search needs
-
-first-row-requires : tie.Need-first-row-requires Inv-loop μ-loop
-first-row-requires c κs = search needs
 
 loop-holds : tie.Need-loop-holds Inv-loop μ-loop
 loop-holds c =
@@ -50,12 +32,6 @@ loop-holds c =
       omega (arith, first .within),
       rows-start (a .file .now) (a .session .now) (a .symbol) (a .i) (c .before .state .ensures .0) first,
     )
-
-row-symbol-requires : tie.Need-row-symbol-requires Inv-loop μ-loop
-row-symbol-requires c κs = search needs
-
-wide-requires : tie.Need-wide-requires Inv-loop μ-loop
-wide-requires c κs = search needs
 
 within : (c : tie.In-loop Inv-loop μ-loop)
     → let start = c .before .before .before .before .before .before .before .before .before .before in
@@ -83,9 +59,6 @@ stopped c other =
 
 returns-2 : tie.Need-returns-2 Inv-loop μ-loop
 returns-2 c = stopped (c .before .before .before) (λ s t. omega arith)
-
-row-from-requires : tie.Need-row-from-requires Inv-loop μ-loop
-row-from-requires c κs = search needs
 
 returns-3 : tie.Need-returns-3 Inv-loop μ-loop
 returns-3 c = stopped (c .before .before .before .before .before) (λ s t. omega arith)
@@ -118,12 +91,6 @@ by-row-requires c κs =
       (passing-ready (at-loop .loop .inv .2) (pre .1 .0), fitting-as fitting (sym (taken has))),
     )
 
-add-r : tie.Need-add-r Inv-loop μ-loop
-add-r c = search needs
-
-loop-less : tie.Need-loop-less Inv-loop μ-loop
-loop-less c = search needs
-
 loop-again : tie.Need-loop-again Inv-loop μ-loop
 loop-again c =
     let has = c .before .before .before .before in
@@ -145,21 +112,21 @@ by-rows-spec =
     (tie.spec
     Inv-loop
     μ-loop
-    level-requires
-    depth-requires
+    (λ c κs. search needs)
+    (λ c κs. search needs)
     returns
-    class-of-requires
-    row-count-requires
-    state-requires
-    first-row-requires
+    (λ c κs. search needs)
+    (λ c κs. search needs)
+    (λ c κs. search needs)
+    (λ c κs. search needs)
     loop-holds
-    row-symbol-requires
-    wide-requires
+    (λ c κs. search needs)
+    (λ c κs. search needs)
     returns-2
-    row-from-requires
+    (λ c κs. search needs)
     returns-3
     by-row-requires
-    add-r
-    loop-less
+    (λ c. search needs)
+    (λ c. search needs)
     loop-again
     returns-4)

@@ -12,12 +12,6 @@ use borrow.Author.Needs.{needs}
 use Rattle.growing.proofs.growth.fits.Statement.{statement}
 use Rattle.growing.proofs.growth.fits.Tie as tie
 
-state-requires : tie.Need-state-requires
-state-requires c κs = search needs
-
-row-from-requires : tie.Need-row-from-requires
-row-from-requires c κs = search needs
-
 returns : tie.Need-returns
 returns c =
     let a = c .before .before .before .before .args in
@@ -32,24 +26,6 @@ from-here : (c : tie.Else1) (k : Class)
 from-here c k =
     let a = c .before .before .before .before .args in
     fits-from k (rowAt (a .file .now) (a .r)) (linkAt (a .session .now) (a .i)) (omega arith)
-
-enum-told : tie.Need-enum-told
-enum-told c = search needs
-
-enum-told-2 : tie.Need-enum-told-2
-enum-told-2 c = search needs
-
-enum-told-3 : tie.Need-enum-told-3
-enum-told-3 c = search needs
-
-marker-requires : tie.Need-marker-requires
-marker-requires c κs = search needs
-
-row-marker-requires : tie.Need-row-marker-requires
-row-marker-requires c κs = search needs
-
-enum-told-4 : tie.Need-enum-told-4
-enum-told-4 c = search needs
 
 returns-2 : tie.Need-returns-2
 returns-2 c = rw (c .enum-told .given .1)
@@ -70,15 +46,15 @@ pub fits-spec : {M : Type 1} → statement M
 fits-spec =
     tie.close
     (tie.spec
-    state-requires
-    row-from-requires
+    (λ c κs. search needs)
+    (λ c κs. search needs)
     returns
-    enum-told
-    enum-told-2
-    enum-told-3
-    marker-requires
-    row-marker-requires
-    enum-told-4
+    (λ c. search needs)
+    (λ c. search needs)
+    (λ c. search needs)
+    (λ c κs. search needs)
+    (λ c κs. search needs)
+    (λ c. search needs)
     returns-2
     returns-3
     returns-4

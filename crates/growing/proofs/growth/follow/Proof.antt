@@ -4,27 +4,15 @@ use borrow.Author.Needs.{needs}
 use Rattle.growing.proofs.growth.follow.Statement.{statement}
 use Rattle.growing.proofs.growth.follow.Tie as tie
 
-enum-told : tie.Need-enum-told
-enum-told c = search needs
-
-enum-told-2 : tie.Need-enum-told-2
-enum-told-2 c = search needs
-
 follow-call-requires : tie.Need-follow-call-requires
 follow-call-requires c κs =
     let pre = c .before .before .before .before .pre in
     (pre .0, (pre .1 .0, rw (c .before .enum-told2 .given .1) at (pre .1 .1)))
 
-enum-told-3 : tie.Need-enum-told-3
-enum-told-3 c = search needs
-
 follow-return-requires : tie.Need-follow-return-requires
 follow-return-requires c κs =
     let pre = c .before .before .before .before .pre in
     (pre .0, (pre .1 .0, rw (c .before .enum-told3 .given .1) at (pre .1 .1)))
-
-enum-told-4 : tie.Need-enum-told-4
-enum-told-4 c = search needs
 
 follow-internal-requires : tie.Need-follow-internal-requires
 follow-internal-requires c κs =
@@ -47,12 +35,12 @@ pub follow-spec : {M : Type 1} → statement M
 follow-spec =
     tie.close
     (tie.spec
-    enum-told
-    enum-told-2
+    (λ c. search needs)
+    (λ c. search needs)
     follow-call-requires
-    enum-told-3
+    (λ c. search needs)
     follow-return-requires
-    enum-told-4
+    (λ c. search needs)
     follow-internal-requires
     returns
     returns-2

@@ -13,9 +13,6 @@ use borrow.Author.Needs.{needs}
 use Rattle.growing.proofs.growth.follow_internal.Statement.{statement}
 use Rattle.growing.proofs.growth.follow_internal.Tie as tie
 
-row-to-requires : tie.Need-row-to-requires
-row-to-requires c κs = search needs
-
 moved-requires : tie.Need-moved-requires
 moved-requires c κs =
     let pre = c .before .before .pre in
@@ -26,15 +23,6 @@ piece-requires c κs = let pre = c .before .before .before .pre in piece-stands 
 
 row-word-requires : tie.Need-row-word-requires
 row-word-requires c κs = let pre = c .before .before .before .before .pre in good-word _ _ (pre .0 .0 .good) (pre .0 .2)
-
-sub-add : tie.Need-sub-add
-sub-add c = search needs
-
-part-add-start : tie.Need-part-add-start
-part-add-start c = search needs
-
-part-add-end : tie.Need-part-add-end
-part-add-end c = search needs
 
 add-requires : tie.Need-add-requires
 add-requires c κs =
@@ -52,19 +40,20 @@ returns c =
     let pre = moved .before .before .before .pre in
     let args = moved .before .before .before .args in
     added (c .add .ensures)
-    (moved .moved .ensures .is ∙ ap (λ (q : ℕ). movedTo q (linkAt (args .session .now) (args .i))) (moved .before .row-to .ensures))
+    (moved .moved .ensures .is ∙ ap (λ (q : ℕ). movedTo q (linkAt (args .session .now) (args .i)))
+    (moved .before .row-to .ensures))
     (simp append-nil (λ i. read .before .piece .ensures i ++ read .row-word .ensures i))
 
 pub follow-internal-spec : {M : Type 1} → statement M
 follow-internal-spec =
     tie.close
     (tie.spec
-    row-to-requires
+    (λ c κs. search needs)
     moved-requires
     piece-requires
     row-word-requires
-    sub-add
-    part-add-start
-    part-add-end
+    (λ c. search needs)
+    (λ c. search needs)
+    (λ c. search needs)
     add-requires
     returns)

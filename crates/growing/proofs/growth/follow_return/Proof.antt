@@ -15,17 +15,8 @@ Inv-loop file session i r work₀ n level grown₀ j₀ work grown j =
 abbrev μ-loop : tie.MeasureT-loop
 μ-loop file session i r work₀ n level grown₀ j₀ work grown j = n - j
 
-count-requires : tie.Need-count-requires Inv-loop μ-loop
-count-requires c κs = search needs
-
-level-requires : tie.Need-level-requires Inv-loop μ-loop
-level-requires c κs = search needs
-
 loop-holds : tie.Need-loop-holds Inv-loop μ-loop
 loop-holds c = (omega arith, passing-start)
-
-level-requires-2 : tie.Need-level-requires-2 Inv-loop μ-loop
-level-requires-2 c κs = search needs
 
 returns : tie.Need-returns Inv-loop μ-loop
 returns c =
@@ -49,12 +40,6 @@ uncover-requires c κs =
       ),
     )
 
-add-j : tie.Need-add-j Inv-loop μ-loop
-add-j c = search needs
-
-loop-less : tie.Need-loop-less Inv-loop μ-loop
-loop-less c = search needs
-
 loop-again : tie.Need-loop-again Inv-loop μ-loop
 loop-again c =
     let at-loop = c .before .before .before .before .before in
@@ -72,13 +57,13 @@ follow-return-spec =
     (tie.spec
     Inv-loop
     μ-loop
-    count-requires
-    level-requires
+    (λ c κs. search needs)
+    (λ c κs. search needs)
     loop-holds
-    level-requires-2
+    (λ c κs. search needs)
     returns
     uncover-requires
-    add-j
-    loop-less
+    (λ c. search needs)
+    (λ c. search needs)
     loop-again
     returns-2)

@@ -16,12 +16,6 @@ Inv-loop file session symbol work₀ n grown₀ i₀ work grown i =
 abbrev μ-loop : tie.MeasureT-loop
 μ-loop file session symbol work₀ n grown₀ i₀ work grown i = n - i
 
-count-requires : tie.Need-count-requires Inv-loop μ-loop
-count-requires c κs = search needs
-
-nothing-requires : tie.Need-nothing-requires Inv-loop μ-loop
-nothing-requires c κs = search needs
-
 loop-holds : tie.Need-loop-holds Inv-loop μ-loop
 loop-holds c = (omega arith, passing-start)
 
@@ -38,12 +32,6 @@ by-rows-requires c κs =
       ),
     )
 
-add-i : tie.Need-add-i Inv-loop μ-loop
-add-i c = search needs
-
-loop-less : tie.Need-loop-less Inv-loop μ-loop
-loop-less c = search needs
-
 loop-again : tie.Need-loop-again Inv-loop μ-loop
 loop-again c = (omega arith, passing-next (c .before .before .before .loop .inv .1) (c .by-rows .ensures))
 
@@ -59,11 +47,11 @@ grow-spec =
     (tie.spec
     Inv-loop
     μ-loop
-    count-requires
-    nothing-requires
+    (λ c κs. search needs)
+    (λ c κs. search needs)
     loop-holds
     by-rows-requires
-    add-i
-    loop-less
+    (λ c. search needs)
+    (λ c. search needs)
     loop-again
     returns)

@@ -14,12 +14,6 @@ use borrow.Author.Needs.{needs}
 use Rattle.growing.proofs.growth.uncover.Statement.{statement}
 use Rattle.growing.proofs.growth.uncover.Tie as tie
 
-seat-requires : tie.Need-seat-requires
-seat-requires c κs = search needs
-
-foot-requires : tie.Need-foot-requires
-foot-requires c κs = search needs
-
 returns : tie.Need-returns
 returns c =
     let pre = c .before .before .before .before .pre in
@@ -36,9 +30,6 @@ fitting : (c : tie.Else1)
     → let a = c .before .before .before .before .args in
     Fitting (lowered (a .file .now) (a .session .now) (a .i) (a .r) (a .j) ∷ [])
 fitting c = fitting-as (c .before .before .before .before .pre .1 .1) (sym (met c))
-
-row-to-requires : tie.Need-row-to-requires
-row-to-requires c κs = search needs
 
 moved-requires : tie.Need-moved-requires
 moved-requires c κs =
@@ -80,7 +71,8 @@ returns-2 c =
     let args = left .before .before .before .before .args in
     gathers-as
     (added (c .add .ensures)
-    (moved .moved .ensures .is ∙ ap (λ (q : ℕ). movedTo q (linkAt (args .session .now) (args .j))) (moved .before .row-to .ensures))
+    (moved .moved .ensures .is ∙ ap (λ (q : ℕ). movedTo q (linkAt (args .session .now) (args .j)))
+    (moved .before .row-to .ensures))
     (λ i. lower .piece .ensures i ++ read .before .piece2 .ensures i ++ read .row-word .ensures i))
     (met left)
 
@@ -88,10 +80,10 @@ pub uncover-spec : {M : Type 1} → statement M
 uncover-spec =
     tie.close
     (tie.spec
-    seat-requires
-    foot-requires
+    (λ c κs. search needs)
+    (λ c κs. search needs)
     returns
-    row-to-requires
+    (λ c κs. search needs)
     moved-requires
     piece-requires
     piece-requires-2

@@ -7,6 +7,7 @@ use Prim.Native.Nat.{ℕ, _*_}
 use native.Mathlib.Omega.{arith}
 use Rattle.words.proofs.Exact.{denied, granted}
 use Rattle.words.proofs.Lists.{byte-getD}
+use Rattle.meaning.specs.Nesting.{Nests}
 use Rattle.table.specs.File.{tableOf}
 use Rattle.table.specs.Good.{first as edition, Good}
 use Rattle.joining.proofs.Told.{joins-bad-first, joins-bad-second, joins-not-nested, joins-too-large}
@@ -64,92 +65,108 @@ returns-3 c =
     (joins-not-nested _ _ _ (h .first) (h .second) (denied (asked .nests .ensures) (c .before .if3 .taken)))
 
 long-words-requires : tie.Need-long-words-requires
-long-words-requires c κs = both-good (c .before .before) .first
+long-words-requires c κs = both-good (c .before .before .before) .first
+
+-- where one of the tests on sizes is asked: both are good, and they nest
+module _ (c : tie.After-refused2) where
+  abbrev hops : Hops (begun (c .before .before .before) .args .first .now)
+      (begun (c .before .before .before) .args .second .now)
+  hops = both-good (c .before .before .before)
+
+  nest : Nests (tableOf (begun (c .before .before .before) .args .second .now) .class)
+      (tableOf (begun (c .before .before .before) .args .first .now))
+  nest = granted (c .before .before .nests .ensures) (c .before .if3 .left)
 
 returns-4 : tie.Need-returns-4
 returns-4 c =
-    let asked = c .before .before in
-    let nested = asked .before in
-    let h = both-good (nested .before .before) in
-    answered (c .refused2 .ensures)
-    (joins-too-large _ _ _ (h .first) (h .second) (granted (nested .before .nests .ensures) (nested .if3 .left))
-    (inl (asked .long-words .ensures .1 (c .before .if4 .taken))))
+    let asked = c .before in
+    let large = asked .before in
+    answered (large .refused2 .ensures)
+    (joins-too-large _ _ _ (hops large .first) (hops large .second) (nest large)
+    (inl (asked .long-words .ensures .1 (c .if4 .taken))))
 
 states-requires : tie.Need-states-requires
-states-requires c κs = both-good (c .before .before .before .before) .first
+states-requires c κs = hops (c .before .before) .first
 
 states-requires-2 : tie.Need-states-requires-2
-states-requires-2 c κs = both-good (c .before .before .before .before .before) .second
+states-requires-2 c κs = hops (c .before .before .before) .second
 
 mul-if5 : tie.Need-mul-if5
 mul-if5 c =
-    let h = both-good (c .before .before .before .before .before .before) in
+    let h = hops (c .before .before .before .before) in
     omega (arith, product (c .before .states .ensures) (c .states2 .ensures), pairs-small h)
 
 returns-5 : tie.Need-returns-5
 returns-5 c =
-    let counted = c .before .before in
-    let nested = counted .before .before .before .before in
-    let h = both-good (nested .before .before) in
-    answered (c .refused3 .ensures)
-    (joins-too-large _ _ _ (h .first) (h .second) (granted (nested .before .nests .ensures) (nested .if3 .left))
-    (inr (inl (rw (counted .before .states .ensures, counted .states2 .ensures) at (c .before .if5 .taken)))))
+    let counted = c .before in
+    let large = counted .before .before .before .before in
+    answered (large .refused2 .ensures)
+    (joins-too-large _ _ _ (hops large .first) (hops large .second) (nest large)
+    (inr (inl (rw (counted .before .states .ensures, counted .states2 .ensures) at (c .if5 .taken)))))
 
--- they nest, and neither words nor states are too large
+-- neither words nor states are too large
+abbrev asked-by : tie.Else5 → tie.After-refused2
+asked-by c = c .before .before .before .before .before
+
 small-enough : (c : tie.Else5)
-    → let start = begun (c .before .before .before .before .before .before .before) in
+    → let start = begun (asked-by c .before .before .before) in
     Nested (start .args .first .now) (start .args .second .now)
 small-enough c =
     let counted = c .before in
     let tested = counted .before .before in
-    let nested = tested .before .before in
-    let h = both-good (nested .before .before) in
+    let large = asked-by c in
     let states-are = product (counted .before .states .ensures) (counted .states2 .ensures) in
     record {
       small = record {
-        hops = h;
+        hops = hops large;
         words =
-            not-long 16 (tableOf (begun (nested .before .before) .args .first .now))
+            not-long 16 (tableOf (begun (large .before .before .before) .args .first .now))
             (λ l. false≢true (sym (tested .if4 .left) ∙ tested .before .long-words .ensures .0 l));
         states = omega (arith, states-are, c .if5 .left);
       };
-      nest = granted (nested .before .nests .ensures) (nested .if3 .left);
+      nest = nest large;
     }
 
 gather-requires : tie.Need-gather-requires
 gather-requires c κs = (small-enough (c .before .before .before) .small, tt)
 
+-- where the markers are gathered: the answer that something is too large, and what was found before
+module _ (c : tie.After-gather) where
+  abbrev else : tie.Else5
+  else = c .before .before .before .before
+
+  abbrev large : tie.After-refused2
+  large = asked-by else
+
 returns-6 : tie.Need-returns-6
 returns-6 c =
-    let gathered = c .before .before .before in
-    answered (c .refused4 .ensures)
-    (nested-marks-full (small-enough (gathered .before .before .before .before)) _
-    (gathered .gather .ensures .full (c .before .enum-told .given .1)))
+    let gathered = c .before .before in
+    answered (large gathered .refused2 .ensures)
+    (nested-marks-full (small-enough (else gathered)) _ (gathered .gather .ensures .full (c .enum-told .given .1)))
 
 returns-7 : tie.Need-returns-7
 returns-7 c =
-    let told = c .before .before .before in
+    let told = c .before .before in
     let gathered = told .before .before in
-    answered (c .refused5 .ensures)
-    (nested-marks-over (small-enough (gathered .before .before .before .before)) _
-    (gathered .gather .ensures .made _ _ (told .markers .given .1)) (omega (arith, c .before .if6 .taken)))
+    answered (large gathered .refused2 .ensures)
+    (nested-marks-over (small-enough (else gathered)) _
+    (gathered .gather .ensures .made _ _ (told .markers .given .1)) (omega (arith, c .if6 .taken)))
 
 gather-requires-2 : tie.Need-gather-requires-2
 gather-requires-2 c κs =
     let tested = c .before .before .before in
     let told = tested .before .before in
     let gathered = told .before .before in (
-      small-enough (gathered .before .before .before .before) .small,
+      small-enough (else gathered) .small,
       marked-all (gathered .gather .ensures .made _ _ (told .markers .given .1)) (omega (arith, tested .if6 .left)),
     )
 
 returns-8 : tie.Need-returns-8
 returns-8 c =
-    let rows = c .before .before .before in
+    let rows = c .before .before in
     let gathered = rows .before .before .before .before .before .before .before .before in
-    answered (c .refused6 .ensures)
-    (nested-rows-full (small-enough (gathered .before .before .before .before)) _
-    (rows .gather2 .ensures .full (c .before .enum-told2 .given .1)))
+    answered (large gathered .refused2 .ensures)
+    (nested-rows-full (small-enough (else gathered)) _ (rows .gather2 .ensures .full (c .enum-told2 .given .1)))
 
 lay-requires : tie.Need-lay-requires
 lay-requires c κs =
@@ -158,8 +175,7 @@ lay-requires c κs =
     let tested = rows .before .before .before .before in
     let told = tested .before .before in
     let gathered = told .before .before in
-    let nested = small-enough (gathered .before .before .before .before) in
-    nested-rowed nested [] (gathered .gather .ensures .made _ _ (told .markers .given .1))
+    nested-rowed (small-enough (else gathered)) [] (gathered .gather .ensures .made _ _ (told .markers .given .1))
     (omega (arith, tested .if6 .left)) (rows .gather2 .ensures .made _ _ (counted .count .given .1))
 
 returns-9 : tie.Need-returns-9
@@ -178,25 +194,21 @@ join-in-spec =
     nests-requires
     (λ c κs. search needs)
     returns-3
-    long-words-requires
     (λ c κs. search needs)
+    long-words-requires
     returns-4
     states-requires
     states-requires-2
     mul-if5
-    (λ c κs. search needs)
     returns-5
     gather-requires
     (λ c. search needs)
     (λ c. search needs)
-    (λ c κs. search needs)
     returns-6
-    (λ c κs. search needs)
     returns-7
     gather-requires-2
     (λ c. search needs)
     (λ c. search needs)
-    (λ c κs. search needs)
     returns-8
     lay-requires
     (λ c. search needs)

@@ -1,5 +1,5 @@
--- The cycle of calls of `branch`, `read` and `read_on` (`joiner::reading`): a branch reads what is left of the word,
--- and a reading that goes on has a branch for each row of the word's first byte, so that the word gets shorter.
+-- The cycle of calls of `branch` and `read` (`joiner::reading`): a branch reads what is left of the word, and a reading
+-- has a branch for each row of the word's first byte, so that the word gets shorter.
 -- Assumes nothing.
 use native.Mathlib.Omega.{arith}
 use mathlib.Core.Path.{_≡_, sym, _∙_, ap}
@@ -37,31 +37,25 @@ use Rattle.table.proofs.row_symbol.Reads as row-symbol-reads
 use Rattle.table.proofs.row_to.Reads as row-to-reads
 use Rattle.joiner.proofs.reading.branch.Reads as branch
 use Rattle.joiner.proofs.reading.branch.Kinds as branch-kinds
-use Rattle.joiner.proofs.reading.+branch+read+read_on.Lts-branch as branch-lts
+use Rattle.joiner.proofs.reading.+branch+read.Lts-branch as branch-lts
 use Rattle.joiner.proofs.reading.read.Reads as read
 use Rattle.joiner.proofs.reading.read.Kinds as read-kinds
-use Rattle.joiner.proofs.reading.+branch+read+read_on.Lts-read as read-lts
-use Rattle.joiner.proofs.reading.read_on.Reads as on
-use Rattle.joiner.proofs.reading.read_on.Kinds as on-kinds
-use Rattle.joiner.proofs.reading.+branch+read+read_on.Lts-read_on as on-lts
+use Rattle.joiner.proofs.reading.+branch+read.Lts-read as read-lts
 use Rattle.joiner.proofs.reading.append.Reads as append-reads
 use Rattle.joiner.proofs.reading.exchange.Reads as exchange-reads
 use Rattle.joiner.proofs.reading.fits.Reads as fits-reads
 use Rattle.joiner.proofs.reading.found.Reads as found-reads
 use Rattle.joiner.proofs.reading.height_after.Reads as height-after-reads
 use Rattle.shelf.proofs.full.Reads as full-reads
-use Rattle.joiner.proofs.reading.+branch+read+read_on.{statement}
-use Rattle.joiner.proofs.reading.+branch+read+read_on.Tie.{close}
+use Rattle.joiner.proofs.reading.+branch+read.{statement}
+use Rattle.joiner.proofs.reading.+branch+read.Tie.{close}
 
--- what is left of the word, three times: a reading, its going on and a branch come one after the other
+-- what is left of the word, twice: a reading and a branch come one after the other
 abbrev μ-branch : Measures 5 branch-kinds.ps ℕ
-μ-branch κs a = 3 * length (a .1 .0 .now) + 3
+μ-branch κs a = 2 * length (a .1 .0 .now) + 2
 
 abbrev μ-read : Measures 5 read-kinds.ps ℕ
-μ-read κs a = 3 * length (a .1 .0 .now) + 2
-
-abbrev μ-read-on : Measures 5 on-kinds.ps ℕ
-μ-read-on κs a = 3 * length (a .1 .0 .now) + 1
+μ-read κs a = 2 * length (a .1 .0 .now) + 1
 
 -- what each is given at the measure t, and what a call of it asks below t
 abbrev branch-at : ℕ → In 5 branch-kinds.ps
@@ -75,12 +69,6 @@ read-at t = and 5 read-kinds.ps (is 5 read-kinds.ps μ-read t) read.Pre
 
 abbrev read-below : ℕ → In 5 read-kinds.ps
 read-below t = and 5 read-kinds.ps (falls 5 read-kinds.ps _<_ μ-read t) read.Pre
-
-abbrev on-at : ℕ → In 5 on-kinds.ps
-on-at t = and 5 on-kinds.ps (is 5 on-kinds.ps μ-read-on t) on.Pre
-
-abbrev on-below : ℕ → In 5 on-kinds.ps
-on-below t = and 5 on-kinds.ps (falls 5 on-kinds.ps _<_ μ-read-on t) on.Pre
 
 -- what the callees ask and say, at the measure t
 abbrev branch-calls : ℕ → branch-lts.Claims
@@ -104,10 +92,9 @@ branch-calls t = (
 )
 
 abbrev read-calls : ℕ → read-lts.Claims
-read-calls t = (found-reads.Asked, found-reads.Learnt, on-below t, on.Post)
-
-abbrev on-calls : ℕ → on-lts.Claims
-on-calls t = (
+read-calls t = (
+  found-reads.Asked,
+  found-reads.Learnt,
   class-of-reads.Asked,
   class-of-reads.Learnt,
   row-count-reads.Asked,
@@ -124,12 +111,12 @@ on-calls t = (
   branch.Post,
 )
 
-abbrev Inv-loop : on-lts.InvT-loop
+abbrev Inv-loop : read-lts.InvT-loop
 Inv-loop second word cursor goal marks rows₀ tape₀ symbol rest class n made₀ row₀ rows tape made row =
     (row₀ ≤ row) × (row ≤ n) × Untouched tape₀ (cursor .end) tape
     × Passing (byRow second (marksOf marks goal) goal symbol rest (configOf cursor tape₀)) rows₀ made₀ row rows made
 
-abbrev μ-loop : on-lts.MeasureT-loop
+abbrev μ-loop : read-lts.MeasureT-loop
 μ-loop second word cursor goal marks rows₀ tape₀ symbol rest class n made₀ row₀ rows tape made row = n - row
 
 -- where it is known whether the row fits: the arguments, and the marks
@@ -270,8 +257,8 @@ branch-returns-3 t c =
     )
 
 -- the arguments of a reading, the marks, and where it starts from
-module _ (t : ℕ) (c : read-lts.After-shared-slice-known2 (read-calls t) (read-at t) read.Post) where
-  abbrev read-start : read-lts.Start (read-calls t) (read-at t) read.Post
+module _ (t : ℕ) (c : read-lts.After-shared-slice-known2 (read-calls t) (read-at t) read.Post Inv-loop μ-loop) where
+  abbrev read-start : read-lts.Start (read-calls t) (read-at t) read.Post Inv-loop μ-loop
   read-start = c .before .before
 
   abbrev read-marks : List Word
@@ -279,6 +266,13 @@ module _ (t : ℕ) (c : read-lts.After-shared-slice-known2 (read-calls t) (read-
 
   abbrev read-from : Config
   read-from = let a = read-start .args in configOf (a .cursor) (a .tape .now)
+
+  -- the word by its first byte
+  abbrev read-symbol : ℕ
+  read-symbol = getD (read-start .args .word .now) 0 0
+
+  abbrev read-rest : Word
+  read-rest = let w = read-start .args .word .now in take (length w - 1) (drop 1 w)
 
   -- as it stands on the tape, part by part
   read-end : let a = read-start .args in
@@ -291,28 +285,28 @@ module _ (t : ℕ) (c : read-lts.After-shared-slice-known2 (read-calls t) (read-
       (part-slice stackRoom (a .cursor .end) (a .tape .now))
 
 -- where its parts are taken from the tape
-read-bounds : (t : ℕ) (c : read-lts.After-found-arg (read-calls t) (read-at t) read.Post)
+read-bounds : (t : ℕ) (c : read-lts.After-found-arg (read-calls t) (read-at t) read.Post Inv-loop μ-loop)
     → let cursor = c .before .before .before .before .before .before .args .cursor in
     (cursor .height ≤ 32) × (32 ≤ cursor .end) × (cursor .end ≤ 4128)
 read-bounds t c =
     let reads = c .before .before .before .before .before .before .pre .1 .0 in
     (omega (arith, reads .high), reads .behind, omega (arith, reads .room))
 
-read-slice-aggregate-found : (t : ℕ) → read-lts.Need-slice-aggregate-found (read-calls t) (read-at t) read.Post
+read-slice-aggregate-found : (t : ℕ) → read-lts.Need-slice-aggregate-found (read-calls t) (read-at t) read.Post Inv-loop μ-loop
 read-slice-aggregate-found t c =
     let a = c .before .before .before .before .before .before .args in
     sym (length-take-le (a .cursor .height) (a .tape .now) (omega (arith, read-bounds t c)))
 
-read-sub-found : (t : ℕ) → read-lts.Need-sub-found (read-calls t) (read-at t) read.Post
+read-sub-found : (t : ℕ) → read-lts.Need-sub-found (read-calls t) (read-at t) read.Post Inv-loop μ-loop
 read-sub-found t c = omega (arith, read-bounds t c)
 
-read-part-found-start : (t : ℕ) → read-lts.Need-part-found-start (read-calls t) (read-at t) read.Post
+read-part-found-start : (t : ℕ) → read-lts.Need-part-found-start (read-calls t) (read-at t) read.Post Inv-loop μ-loop
 read-part-found-start t c = omega arith
 
-read-part-found-end : (t : ℕ) → read-lts.Need-part-found-end (read-calls t) (read-at t) read.Post
+read-part-found-end : (t : ℕ) → read-lts.Need-part-found-end (read-calls t) (read-at t) read.Post Inv-loop μ-loop
 read-part-found-end t c = omega (arith, read-bounds t c)
 
-read-found-requires : (t : ℕ) → read-lts.Need-found-requires (read-calls t) (read-at t) read.Post
+read-found-requires : (t : ℕ) → read-lts.Need-found-requires (read-calls t) (read-at t) read.Post Inv-loop μ-loop
 read-found-requires t c κs =
     let end = c .before .before .before .before .before in
     let known = end .before in
@@ -328,7 +322,7 @@ read-found-requires t c κs =
       ),
     )
 
-read-returns : (t : ℕ) → read-lts.Need-returns (read-calls t) (read-at t) read.Post
+read-returns : (t : ℕ) → read-lts.Need-returns (read-calls t) (read-at t) read.Post Inv-loop μ-loop
 read-returns t c =
     let end = c .before .before .before .before .before .before in
     let known = end .before in
@@ -340,214 +334,188 @@ read-returns t c =
       untouched-self,
     )
 
-read-read-on-requires : (t : ℕ) → read-lts.Need-read-on-requires (read-calls t) (read-at t) read.Post
-read-read-on-requires t c κs =
-    let else = c .before .before in
-    let start = read-start t (else .before) in
-    let pre = start .pre .1 in
-    (omega (arith, start .pre .0), ((pre .0, omega (arith, else .if1 .left)), pre .1))
-
-read-returns-2 : (t : ℕ) → read-lts.Need-returns-2 (read-calls t) (read-at t) read.Post
-read-returns-2 t c = c .read-on .ensures
-
--- the same of one that goes on, and the word by its first byte
-module _ (t : ℕ)
-    (c : on-lts.After-shared-slice-known3 (on-calls t) (on-at t) on.Post Inv-loop μ-loop) where
-  abbrev on-start : on-lts.Start (on-calls t) (on-at t) on.Post Inv-loop μ-loop
-  on-start = c .before .before .before
-
-  abbrev on-marks : List Word
-  on-marks = let a = on-start .args in marksOf (a .marks .now) (a .goal)
-
-  abbrev on-from : Config
-  on-from = let a = on-start .args in configOf (a .cursor) (a .tape .now)
-
-  abbrev on-symbol : ℕ
-  on-symbol = getD (on-start .args .word .now) 0 0
-
-  abbrev on-rest : Word
-  on-rest = let w = on-start .args .word .now in take (length w - 1) (drop 1 w)
-
 -- in the loop the word has a first byte; a row there, and one that has the symbol
-module _ (t : ℕ) (c : on-lts.At-loop (on-calls t) (on-at t) on.Post Inv-loop μ-loop) where
-  abbrev loop-known : on-lts.After-shared-slice-known3 (on-calls t) (on-at t) on.Post Inv-loop μ-loop
-  loop-known = c .before .before .before .before .before
+module _ (t : ℕ) (c : read-lts.At-loop (read-calls t) (read-at t) read.Post Inv-loop μ-loop) where
+  abbrev loop-known : read-lts.After-shared-slice-known2 (read-calls t) (read-at t) read.Post Inv-loop μ-loop
+  loop-known = c .before .before .before .before .before .before .before
 
-  loop-word : on-start t loop-known .args .word .now ≡ on-symbol t loop-known ∷ on-rest t loop-known
+  loop-word : read-start t loop-known .args .word .now ≡ read-symbol t loop-known ∷ read-rest t loop-known
   loop-word =
-      word-first (on-start t loop-known .args .word .now) (on-start t loop-known .pre .1 .0 .1)
+      word-first (read-start t loop-known .args .word .now)
+      (omega (arith, c .before .before .before .before .before .before .if1 .left))
 
 -- a turn starts from the configuration that the loop started from
-on-config : (t : ℕ) (c : on-lts.At-loop (on-calls t) (on-at t) on.Post Inv-loop μ-loop)
-    → configOf (on-start t (loop-known t c) .args .cursor) (c .loop .tape) ≡ on-from t (loop-known t c)
-on-config t c =
-    let start = on-start t (loop-known t c) in
-    let reads = start .pre .1 .0 .0 in
+read-config : (t : ℕ) (c : read-lts.At-loop (read-calls t) (read-at t) read.Post Inv-loop μ-loop)
+    → configOf (read-start t (loop-known t c) .args .cursor) (c .loop .tape) ≡ read-from t (loop-known t c)
+read-config t c =
+    let start = read-start t (loop-known t c) in
+    let reads = start .pre .1 .0 in
     same-config (start .args .cursor) (omega (arith, reads .high, reads .behind)) (c .loop .inv .2)
 
-on-within : (t : ℕ) (c : on-lts.In-loop (on-calls t) (on-at t) on.Post Inv-loop μ-loop)
-    → c .before .loop .row < rowCount (on-start t (loop-known t (c .before)) .args .second .now)
-on-within t c = omega (arith, c .before .before .before .row-count .ensures)
+read-within : (t : ℕ) (c : read-lts.In-loop (read-calls t) (read-at t) read.Post Inv-loop μ-loop)
+    → c .before .loop .row < rowCount (read-start t (loop-known t (c .before)) .args .second .now)
+read-within t c = omega (arith, c .before .before .before .row-count .ensures)
 
-on-has : (t : ℕ) (c : on-lts.Else1 (on-calls t) (on-at t) on.Post Inv-loop μ-loop)
+read-has : (t : ℕ) (c : read-lts.Else2 (read-calls t) (read-at t) read.Post Inv-loop μ-loop)
     → let at-loop = c .before .before .before .before in
     let known = loop-known t at-loop in
-    rowAt (on-start t known .args .second .now) (at-loop .loop .row) .symbol ≡ on-symbol t known
-on-has t c = omega (arith, c .before .wide .ensures, c .before .before .row-symbol .ensures)
+    rowAt (read-start t known .args .second .now) (at-loop .loop .row) .symbol ≡ read-symbol t known
+read-has t c = omega (arith, c .before .wide .ensures, c .before .before .row-symbol .ensures)
 
-on-shared-slice-read-symbol : (t : ℕ)
-    → on-lts.Need-shared-slice-read-symbol (on-calls t) (on-at t) on.Post Inv-loop μ-loop
-on-shared-slice-read-symbol t c = omega (arith, c .before .before .before .pre .1 .0 .1)
+read-shared-slice-read-symbol : (t : ℕ)
+    → read-lts.Need-shared-slice-read-symbol (read-calls t) (read-at t) read.Post Inv-loop μ-loop
+read-shared-slice-read-symbol t c = omega (arith, c .before .if1 .left)
 
-on-sub-rest : (t : ℕ) → on-lts.Need-sub-rest (on-calls t) (on-at t) on.Post Inv-loop μ-loop
-on-sub-rest t c = omega (arith, c .before .before .before .pre .1 .0 .1)
+read-sub-rest : (t : ℕ) → read-lts.Need-sub-rest (read-calls t) (read-at t) read.Post Inv-loop μ-loop
+read-sub-rest t c = omega (arith, c .before .if1 .left)
 
-on-part-rest-start : (t : ℕ) → on-lts.Need-part-rest-start (on-calls t) (on-at t) on.Post Inv-loop μ-loop
-on-part-rest-start t c = omega (arith, c .before .before .before .pre .1 .0 .1)
+read-part-rest-start : (t : ℕ) → read-lts.Need-part-rest-start (read-calls t) (read-at t) read.Post Inv-loop μ-loop
+read-part-rest-start t c = omega (arith, c .before .if1 .left)
 
-on-part-rest-end : (t : ℕ) → on-lts.Need-part-rest-end (on-calls t) (on-at t) on.Post Inv-loop μ-loop
-on-part-rest-end t c = omega arith
+read-part-rest-end : (t : ℕ) → read-lts.Need-part-rest-end (read-calls t) (read-at t) read.Post Inv-loop μ-loop
+read-part-rest-end t c = omega arith
 
-on-class-of-requires : (t : ℕ) → on-lts.Need-class-of-requires (on-calls t) (on-at t) on.Post Inv-loop μ-loop
-on-class-of-requires t c κs = on-start t (c .before) .pre .1 .0 .0 .good
+read-class-of-requires : (t : ℕ) → read-lts.Need-class-of-requires (read-calls t) (read-at t) read.Post Inv-loop μ-loop
+read-class-of-requires t c κs = read-start t (c .before .before .before) .pre .1 .0 .good
 
-on-row-count-requires : (t : ℕ)
-    → on-lts.Need-row-count-requires (on-calls t) (on-at t) on.Post Inv-loop μ-loop
-on-row-count-requires t c κs = on-start t (c .before .before) .pre .1 .0 .0 .good
+read-row-count-requires : (t : ℕ)
+    → read-lts.Need-row-count-requires (read-calls t) (read-at t) read.Post Inv-loop μ-loop
+read-row-count-requires t c κs = read-start t (c .before .before .before .before) .pre .1 .0 .good
 
-on-first-row-requires : (t : ℕ)
-    → on-lts.Need-first-row-requires (on-calls t) (on-at t) on.Post Inv-loop μ-loop
-on-first-row-requires t c κs = on-start t (c .before .before .before) .pre .1 .0 .0 .good
+read-first-row-requires : (t : ℕ)
+    → read-lts.Need-first-row-requires (read-calls t) (read-at t) read.Post Inv-loop μ-loop
+read-first-row-requires t c κs =
+    read-start t (c .before .before .before .before .before) .pre .1 .0 .good
 
-on-loop-holds : (t : ℕ) → on-lts.Need-loop-holds (on-calls t) (on-at t) on.Post Inv-loop μ-loop
-on-loop-holds t c =
-    let known = c .before .before .before .before in
-    let a = on-start t known .args in
+read-loop-holds : (t : ℕ) → read-lts.Need-loop-holds (read-calls t) (read-at t) read.Post Inv-loop μ-loop
+read-loop-holds t c =
+    let known = c .before .before .before .before .before .before in
+    let a = read-start t known .args in
     let first = c .first-row .ensures in (
       omega arith,
       omega (arith, first .within, c .before .row-count .ensures),
       untouched-self,
-      rows-start (a .second .now) (on-marks t known) (a .goal) (on-symbol t known) (on-rest t known)
-          (on-from t known) first,
+      rows-start (a .second .now) (read-marks t known) (a .goal) (read-symbol t known) (read-rest t known)
+          (read-from t known) first,
     )
 
-on-row-symbol-requires : (t : ℕ)
-    → on-lts.Need-row-symbol-requires (on-calls t) (on-at t) on.Post Inv-loop μ-loop
-on-row-symbol-requires t c κs =
-    (on-start t (loop-known t (c .before)) .pre .1 .0 .0 .good, on-within t c)
+read-row-symbol-requires : (t : ℕ)
+    → read-lts.Need-row-symbol-requires (read-calls t) (read-at t) read.Post Inv-loop μ-loop
+read-row-symbol-requires t c κs =
+    (read-start t (loop-known t (c .before)) .pre .1 .0 .good, read-within t c)
 
-on-wide-requires : (t : ℕ) → on-lts.Need-wide-requires (on-calls t) (on-at t) on.Post Inv-loop μ-loop
-on-wide-requires t c κs = search needs
+read-wide-requires : (t : ℕ) → read-lts.Need-wide-requires (read-calls t) (read-at t) read.Post Inv-loop μ-loop
+read-wide-requires t c κs = search needs
 
 -- at a row that is not of the symbol from the state, all such rows are passed
-on-stopped : (t : ℕ) (c : on-lts.In-loop (on-calls t) (on-at t) on.Post Inv-loop μ-loop)
+read-stopped : (t : ℕ) (c : read-lts.In-loop (read-calls t) (read-at t) read.Post Inv-loop μ-loop)
     → let at-loop = c .before in
     let known = loop-known t at-loop in
-    let a = on-start t known .args in
+    let a = read-start t known .args in
     let x = rowAt (a .second .now) (at-loop .loop .row) in
-    (x .symbol ≡ on-symbol t known → x .from ≡ a .cursor .state → ⊥)
-    → Gathers (findings (a .second .now) (on-marks t known) (a .goal) (a .word .now) (on-from t known))
+    (x .symbol ≡ read-symbol t known → x .from ≡ a .cursor .state → ⊥)
+    → Gathers (findings (a .second .now) (read-marks t known) (a .goal) (a .word .now) (read-from t known))
     (a .rows .now) (a .shelf) (at-loop .loop .made) (at-loop .loop .rows)
-on-stopped t c other =
+read-stopped t c other =
     let at-loop = c .before in
     let known = loop-known t at-loop in
-    let start = on-start t known in
+    let start = read-start t known in
     let a = start .args in
-    let within = on-within t c in
-    rows-end (a .second .now) (on-marks t known) (a .goal) (on-symbol t known) (on-rest t known) (on-from t known)
+    let within = read-within t c in
+    rows-end (a .second .now) (read-marks t known) (a .goal) (read-symbol t known) (read-rest t known) (read-from t known)
     (loop-word t at-loop) (at-loop .loop .inv .3) (omega (arith, within))
-    (none-behind (a .second .now) (start .pre .1 .0 .0 .good .rows) (at-loop .before .first-row .ensures)
+    (none-behind (a .second .now) (start .pre .1 .0 .good .rows) (at-loop .before .first-row .ensures)
     (at-loop .loop .inv .0) within other)
 
-on-returns : (t : ℕ) → on-lts.Need-returns (on-calls t) (on-at t) on.Post Inv-loop μ-loop
-on-returns t c =
+read-returns-2 : (t : ℕ) → read-lts.Need-returns-2 (read-calls t) (read-at t) read.Post Inv-loop μ-loop
+read-returns-2 t c =
     let in-loop = c .before .before .before in (
-      on-stopped t in-loop (λ s f. omega (arith, c .before .wide .ensures, c .before .before .row-symbol .ensures)),
+      read-stopped t in-loop (λ s f. omega (arith, c .before .wide .ensures, c .before .before .row-symbol .ensures)),
       in-loop .before .loop .inv .2,
     )
 
-on-row-from-requires : (t : ℕ)
-    → on-lts.Need-row-from-requires (on-calls t) (on-at t) on.Post Inv-loop μ-loop
-on-row-from-requires t c κs =
+read-row-from-requires : (t : ℕ)
+    → read-lts.Need-row-from-requires (read-calls t) (read-at t) read.Post Inv-loop μ-loop
+read-row-from-requires t c κs =
     let in-loop = c .before .before .before in
-    (on-start t (loop-known t (in-loop .before)) .pre .1 .0 .0 .good, on-within t in-loop)
+    (read-start t (loop-known t (in-loop .before)) .pre .1 .0 .good, read-within t in-loop)
 
-on-returns-2 : (t : ℕ) → on-lts.Need-returns-2 (on-calls t) (on-at t) on.Post Inv-loop μ-loop
-on-returns-2 t c =
+read-returns-3 : (t : ℕ) → read-lts.Need-returns-3 (read-calls t) (read-at t) read.Post Inv-loop μ-loop
+read-returns-3 t c =
     let in-loop = c .before .before .before .before .before .before in (
-      on-stopped t in-loop (λ s f. omega (arith, c .before .before .row-from .ensures)),
+      read-stopped t in-loop (λ s f. omega (arith, c .before .before .row-from .ensures)),
       in-loop .before .loop .inv .2,
     )
 
-on-branch-requires : (t : ℕ) → on-lts.Need-branch-requires (on-calls t) (on-at t) on.Post Inv-loop μ-loop
-on-branch-requires t c κs =
+read-branch-requires : (t : ℕ) → read-lts.Need-branch-requires (read-calls t) (read-at t) read.Post Inv-loop μ-loop
+read-branch-requires t c κs =
     let else = c .before .before .before .before .before in
     let at-loop = else .before .before .before .before in
     let known = loop-known t at-loop in
-    let start = on-start t known in
+    let start = read-start t known in
     let a = start .args in
     let pre = start .pre .1 in
     let word = loop-word t at-loop in
     let long = ap length word in
-    let within = on-within t (else .before .before .before) in (
+    let within = read-within t (else .before .before .before) in (
       omega (arith, start .pre .0),
       (
         record {
-          good = pre .0 .0 .good;
+          good = pre .0 .good;
           row = within;
-          high = omega (arith, pre .0 .0 .high);
-          behind = pre .0 .0 .behind;
-          room = omega (arith, pre .0 .0 .room);
+          high = omega (arith, pre .0 .high);
+          behind = pre .0 .behind;
+          room = omega (arith, pre .0 .room);
         },
         (
           pre .1 .0,
           (
-            suited-row (a .second .now) (on-marks t known) (a .goal) (on-symbol t known) (on-rest t known)
-                (on-from t known) word (at-loop .loop .row) within (at-loop .before .before .before .class-of .ensures)
-                (on-has t else) (on-config t at-loop) (pre .1 .1 .0),
+            suited-row (a .second .now) (read-marks t known) (a .goal) (read-symbol t known) (read-rest t known)
+                (read-from t known) word (at-loop .loop .row) within (at-loop .before .before .before .class-of .ensures)
+                (read-has t else) (read-config t at-loop) (pre .1 .1 .0),
             passing-ready (at-loop .loop .inv .3) (pre .1 .1 .1),
           ),
         ),
       ),
     )
 
-on-add-row : (t : ℕ) → on-lts.Need-add-row (on-calls t) (on-at t) on.Post Inv-loop μ-loop
-on-add-row t c = search needs
+read-add-row : (t : ℕ) → read-lts.Need-add-row (read-calls t) (read-at t) read.Post Inv-loop μ-loop
+read-add-row t c = search needs
 
-on-loop-less : (t : ℕ) → on-lts.Need-loop-less (on-calls t) (on-at t) on.Post Inv-loop μ-loop
-on-loop-less t c = search needs
+read-loop-less : (t : ℕ) → read-lts.Need-loop-less (read-calls t) (read-at t) read.Post Inv-loop μ-loop
+read-loop-less t c = search needs
 
-on-loop-again : (t : ℕ) → on-lts.Need-loop-again (on-calls t) (on-at t) on.Post Inv-loop μ-loop
-on-loop-again t c =
+read-loop-again : (t : ℕ) → read-lts.Need-loop-again (read-calls t) (read-at t) read.Post Inv-loop μ-loop
+read-loop-again t c =
     let else = c .before .before .before .before .before .before in
     let at-loop = else .before .before .before .before in
     let known = loop-known t at-loop in
-    let a = on-start t known .args in (
+    let a = read-start t known .args in (
       omega arith,
       omega arith,
       untouched-both (at-loop .loop .inv .2) (c .branch .ensures .1),
       passing-next (at-loop .loop .inv .3)
           (gathers-as (c .branch .ensures .0)
-          (by-class (a .second .now) (on-marks t known) (a .goal) (on-symbol t known) (on-rest t known)
-          (on-from t known) (at-loop .loop .row) (at-loop .before .before .before .class-of .ensures) (on-has t else)
-          (on-config t at-loop))),
+          (by-class (a .second .now) (read-marks t known) (a .goal) (read-symbol t known) (read-rest t known)
+          (read-from t known) (at-loop .loop .row) (at-loop .before .before .before .class-of .ensures) (read-has t else)
+          (read-config t at-loop))),
     )
 
-on-returns-3 : (t : ℕ) → on-lts.Need-returns-3 (on-calls t) (on-at t) on.Post Inv-loop μ-loop
-on-returns-3 t c =
+read-returns-4 : (t : ℕ) → read-lts.Need-returns-4 (read-calls t) (read-at t) read.Post Inv-loop μ-loop
+read-returns-4 t c =
     let at-loop = c .before in
     let known = loop-known t at-loop in
-    let a = on-start t known .args in (
-      rows-end (a .second .now) (on-marks t known) (a .goal) (on-symbol t known) (on-rest t known)
-          (on-from t known) (loop-word t at-loop) (at-loop .loop .inv .3)
+    let a = read-start t known .args in (
+      rows-end (a .second .now) (read-marks t known) (a .goal) (read-symbol t known) (read-rest t known)
+          (read-from t known) (loop-word t at-loop) (at-loop .loop .inv .3)
           (omega (arith, at-loop .before .before .row-count .ensures))
           (λ k l m. absurd (omega (arith, at-loop .before .before .row-count .ensures))),
       at-loop .loop .inv .2,
     )
 
-pub +branch+read+read-on-spec : {M : Type 1} → statement M
-+branch+read+read-on-spec =
-    close μ-branch μ-read μ-read-on
+pub +branch+read-spec : {M : Type 1} → statement M
++branch+read-spec =
+    close μ-branch μ-read
     (λ t. branch-lts.spec (branch-calls t) (branch-at t) branch.Post
     (branch-full-requires t)
     (branch-returns t)
@@ -562,31 +530,28 @@ pub +branch+read+read-on-spec : {M : Type 1} → statement M
     (branch-read-requires t)
     (branch-exchange-requires-2 t)
     (branch-returns-3 t))
-    (λ t. read-lts.spec (read-calls t) (read-at t) read.Post
+    (λ t. read-lts.spec (read-calls t) (read-at t) read.Post Inv-loop μ-loop
     (read-slice-aggregate-found t)
     (read-sub-found t)
     (read-part-found-start t)
     (read-part-found-end t)
     (read-found-requires t)
     (read-returns t)
-    (read-read-on-requires t)
-    (read-returns-2 t))
-    (λ t. on-lts.spec (on-calls t) (on-at t) on.Post Inv-loop μ-loop
-    (on-shared-slice-read-symbol t)
-    (on-sub-rest t)
-    (on-part-rest-start t)
-    (on-part-rest-end t)
-    (on-class-of-requires t)
-    (on-row-count-requires t)
-    (on-first-row-requires t)
-    (on-loop-holds t)
-    (on-row-symbol-requires t)
-    (on-wide-requires t)
-    (on-returns t)
-    (on-row-from-requires t)
-    (on-returns-2 t)
-    (on-branch-requires t)
-    (on-add-row t)
-    (on-loop-less t)
-    (on-loop-again t)
-    (on-returns-3 t))
+    (read-shared-slice-read-symbol t)
+    (read-sub-rest t)
+    (read-part-rest-start t)
+    (read-part-rest-end t)
+    (read-class-of-requires t)
+    (read-row-count-requires t)
+    (read-first-row-requires t)
+    (read-loop-holds t)
+    (read-row-symbol-requires t)
+    (read-wide-requires t)
+    (read-returns-2 t)
+    (read-row-from-requires t)
+    (read-returns-3 t)
+    (read-branch-requires t)
+    (read-add-row t)
+    (read-loop-less t)
+    (read-loop-again t)
+    (read-returns-4 t))
