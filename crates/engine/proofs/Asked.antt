@@ -186,7 +186,8 @@ module _ {file session : List ℕ} {symbol depth : ℕ} (o : Opened file session
         grow-level (tableOf file) (sessionOf session) symbol e k ∙ sym (o .is)
 
     -- what shaking is asked to draft
-    over-is : shakenOver session depth (draftsOf work) ≡ shaken (kept (tableOf file) (sessionOf session) symbol) .entries
+    over-is : shakenOver session depth (draftsOf work)
+        ≡ shaken (kept (tableOf file) (sessionOf session) symbol) .entries
     over-is = rw (g .are, o .is)
 
     module _ (some : countOf work ≡ 0 → ⊥) where

@@ -86,7 +86,8 @@ module _ {file session work : List ℕ} {symbol depth : ℕ} (d : Left file sess
   -- a draft's link is one of those that are left, and the other way round
   drafts-in : (i : ℕ) → i < countOf work → draftIn work i among E
   drafts-in i lt =
-      subst (λ (K : List Entry). draftIn work i among K) (d .are) (Memᴰ·map (draftIn work) (upTo-in (countOf work) i lt))
+      subst (λ (K : List Entry). draftIn work i among K) (d .are)
+      (Memᴰ·map (draftIn work) (upTo-in (countOf work) i lt))
 
   drafts-out : (f : Entry) → f among E → (j : ℕ) × (j < countOf work) × (draftIn work j ≡ f)
   drafts-out f m =
@@ -193,11 +194,12 @@ module _ {file session work : List ℕ} {symbol depth : ℕ} (d : Left file sess
             short i lt =
                 let m = Memᴰ·map (draftIn work′) (upTo-in (countOf work′) i lt) in
                 let k = subst (λ (K : List Entry). draftIn work′ i among K) are m in
+                let lies = s .lies i (omega (arith, s .count)) in
                 omega (
                   arith,
                   piece-short (T l) (rules l) (stepped (T l) (S l) symbol) after (draftIn work′ i) k,
                   length-take-le (lengthAt work′ i) (drop (whereAt work′ i) work′)
-                      (omega (arith, s .lies i (omega (arith, s .count)), s .whole, length-drop (whereAt work′ i) work′)),
+                      (omega (arith, lies, s .whole, length-drop (whereAt work′ i) work′)),
                 )
 
         pub settled-taken : {session′ out′ part : List ℕ} → session′ ≡ bytesOf (drafted depth work′)

@@ -143,8 +143,8 @@ gapped-none bytes n =
       others = λ k a b. refl;
     }
 
-pub gapped-one : {bytes bytes′ : List ℕ} {i n : ℕ} {l : Link} → Bytes bytes → Read bytes (linkStart i) l → n ≡ lengthAt bytes i
-    → Linked bytes (i + 1) l n bytes′ → Gapped bytes (i + 1) i bytes′
+pub gapped-one : {bytes bytes′ : List ℕ} {i n : ℕ} {l : Link} → Bytes bytes → Read bytes (linkStart i) l
+    → n ≡ lengthAt bytes i → Linked bytes (i + 1) l n bytes′ → Gapped bytes (i + 1) i bytes′
 gapped-one {bytes} {bytes′} {i} {n} {l} small r e h =
     record {
       whole = h .whole;
@@ -172,7 +172,8 @@ gapped-one {bytes} {bytes′} {i} {n} {l} small r e h =
     two (suc zero) o = omega (arith, low, high)
     two (suc (suc j)) o = absurd (omega arith)
 
-module _ {a b c : List ℕ} {n i : ℕ} (p : Gapped a n (i + 1) b) (q : Gapped b (i + 1) i c) (le : i < n) (lt : n < 64) where
+module _ {a b c : List ℕ} {n i : ℕ} (p : Gapped a n (i + 1) b) (q : Gapped b (i + 1) i c) (le : i < n)
+    (lt : n < 64) where
   pub gapped-more : Gapped a n i c
   gapped-more =
       record {

@@ -51,7 +51,9 @@ pub gapped-unique : {a b c : List ℕ} {n at : ℕ} → n < 64 → Gapped a n at
 gapped-unique {a} {b} {c} {n} {at} lt p q = ext-getD 0 b c (p .whole ∙ sym (q .whole)) (λ k l. same k)
   where
     same : (k : ℕ) → byte b k ≡ byte c k
-    same k = go (within (linkStart (at + 1)) (linkStart (n + 1)) k) (within (lengthStart (at + 1)) (lengthStart (n + 1)) k)
+    same k =
+        go (within (linkStart (at + 1)) (linkStart (n + 1)) k)
+        (within (lengthStart (at + 1)) (lengthStart (n + 1)) k)
       where
         go : ((linkStart (at + 1) ≤ k) × (k < linkStart (n + 1)))
             ⊎ ((k < linkStart (at + 1)) ⊎ (linkStart (n + 1) ≤ k))

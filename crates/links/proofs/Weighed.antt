@@ -16,7 +16,8 @@ use Rattle.meaning.specs.Trails.{Link}
 use Rattle.standing.specs.Sessions.{onBottom, standsOn}
 use Rattle.standing.specs.Soundly.{Load, most, loadsOf, longestOf}
 use Rattle.standing.specs.Bytes.{linkStart, countOf, lengthAt, linkAt, NoneBelow, noEntry}
-use Rattle.standing.specs.Numbers.{seatAt, footAt, Weighable, weightAt, weights, loadsFrom, loadAt, Weighed, Picks, Heaviest}
+use Rattle.standing.specs.Numbers.{seatAt, footAt, Weighable, weightAt, weights, loadsFrom, loadAt, Weighed}
+use Rattle.standing.specs.Numbers.{Picks, Heaviest}
 use Rattle.standing.proofs.Feet.{stands-foot, bottom-foot}
 
 module _ (bytes : List ℕ) where
@@ -34,7 +35,9 @@ module _ (bytes : List ℕ) where
 
   loads-end : (j : ℕ) → countOf bytes ≤ j → loadsFrom bytes j ≡ []
   unfolding loadsFrom
-  loads-end j le = let l : length (weights bytes) ≤ j = omega (arith, weighed) in ap loadsOf (drop-of-length-le (weights bytes) l)
+  loads-end j le =
+      let l : length (weights bytes) ≤ j = omega (arith, weighed) in
+      ap loadsOf (drop-of-length-le (weights bytes) l)
 
   module _ (test : Link → Bool) where
     abbrev mostFrom : ℕ → ℕ

@@ -14,9 +14,9 @@ ghost use lib.ListN.{length};
 ghost use Rattle.words.specs.Lists.{Exact};
 ghost use Rattle.words.specs.LittleEndian.{byte};
 ghost use Rattle.standing.specs.Sessions.{started};
-ghost use Rattle.standing.specs.Bytes.{pieceStart, pieceRoom, size, countOf, lengthAt, belowAt, linkAt, pieceAt};
+ghost use Rattle.standing.specs.Bytes.{pieceStart, pieceRoom, size, countOf, lengthAt, linkAt, pieceAt};
 ghost use Rattle.standing.specs.Bytes.{Unused, noEntry, linkBytes, bytesOf};
-ghost use Rattle.standing.specs.Numbers.{Lent, keys, seatAt, footAt, keyAt, headAt, pieceEnd, Clear, ClearBehind};
+ghost use Rattle.standing.specs.Numbers.{Lent, seatAt, footAt, headAt, pieceEnd, Clear, ClearBehind};
 ghost use Rattle.standing.specs.Numbers.{Measured, Tidy, Ready, Put};
 ghost use Rattle.links.specs.Heads.{fiveOf};
 
@@ -27,7 +27,7 @@ const ROOM: usize = 512;
 
 pub const SIZE: usize = 33218;
 
-// The head of a session.
+// What the head of a session says.
 pub fn depth(session: &[u8; SIZE]) -> usize
     ensures { λ r. ⌜ r ≡ byte (now (session .entry)) 0 ⌝ }
 {
@@ -62,20 +62,6 @@ pub fn marker(session: &[u8; SIZE], i: usize) -> usize
     links::marker(&session[..], i)
 }
 
-pub fn state_below(session: &[u8; SIZE], i: usize) -> usize
-    requires { ⌜ i < 64 ⌝ }
-    ensures { λ r. ⌜ (r ≡ belowAt (now (session .entry)) i .state) × (r < 256) ⌝ }
-{
-    links::state_below(&session[..], i)
-}
-
-pub fn marker_below(session: &[u8; SIZE], i: usize) -> usize
-    requires { ⌜ i < 64 ⌝ }
-    ensures { λ r. ⌜ (r ≡ belowAt (now (session .entry)) i .marker) × (r < 256) ⌝ }
-{
-    links::marker_below(&session[..], i)
-}
-
 pub fn seat(session: &[u8; SIZE], i: usize) -> usize
     requires { ⌜ i < 64 ⌝ }
     ensures { λ r. ⌜ r ≡ seatAt (now (session .entry)) i ⌝ }
@@ -88,13 +74,6 @@ pub fn foot(session: &[u8; SIZE], i: usize) -> usize
     ensures { λ r. ⌜ r ≡ footAt (now (session .entry)) i ⌝ }
 {
     links::foot(&session[..], i)
-}
-
-pub fn key(session: &[u8; SIZE], i: usize) -> usize
-    requires { ⌜ i < 64 ⌝ }
-    ensures { λ r. ⌜ (r ≡ keyAt (now (session .entry)) i) × (r < keys) ⌝ }
-{
-    links::key(&session[..], i)
 }
 
 // A piece, as a part of the lent session.

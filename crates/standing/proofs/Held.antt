@@ -78,7 +78,8 @@ module _ {a e : List ℕ} {i : ℕ} {five : List ℕ} {word : Word} (p : Put a i
               same (lengthStart i) j (omega arith) (p .here .long j (omega arith) ∙ sym (q .here .long j (omega arith)))
           go (inr a) (inr b) (inl (x, y)) =
               let j = k - pieceStart i in
-              same (pieceStart i) j (omega arith) (p .here .piece j (omega arith) ∙ sym (q .here .piece j (omega arith)))
+              same (pieceStart i) j (omega arith)
+              (p .here .piece j (omega arith) ∙ sym (q .here .piece j (omega arith)))
           go (inr a) (inr b) (inr c) =
               let o : Outside i k = record { link = a; long = b; piece = c } in
               p .others k o ∙ sym (q .others k o)

@@ -6,7 +6,8 @@ use Rattle.links.proofs.rest_blank.Tie as tie
 
 returns : tie.Need-returns
 returns c =
-    no-exact (λ h. denied (c .before .blank .ensures) (c .if1 .taken) (rw (c .before .before .count .ensures .0 .0) (h .links)))
+    let n = c .before .before .count .ensures .0 .0 in
+    no-exact (λ h. denied (c .before .blank .ensures) (c .if1 .taken) (rw n (h .links)))
 
 returns-2 : tie.Need-returns-2
 returns-2 c =

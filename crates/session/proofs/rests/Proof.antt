@@ -22,7 +22,8 @@ longest-requires c κs =
 
 -- the longest is that of the session's entries
 longest-is : (c : tie.After-longest)
-    → c .longest .result ≡ longest (sessionOf (c .before .before .before .before .before .before .args .session .now) .entries)
+    → let session = c .before .before .before .before .before .before .args .session .now in
+    c .longest .result ≡ longest (sessionOf session .entries)
 longest-is c =
     let pre = c .before .before .before .before .before .before .pre in
     let links = pre .1 .0 in

@@ -24,14 +24,16 @@ returns-3 c = not-sound (lent (c .before .before .before .before .before)) (λ p
 returns-4 : tie.Need-returns-4
 returns-4 c =
     let at-caps = c .before .before in
-    not-sound (lent (at-caps .before .before .before .before .before)) (λ p. denied (c .before .links .ensures) (c .if4 .taken) (p .links))
+    not-sound (lent (at-caps .before .before .before .before .before))
+    (λ p. denied (c .before .links .ensures) (c .if4 .taken) (p .links))
 
 on-links-requires : tie.Need-on-links-requires
 on-links-requires c κs =
     let at-caps = c .before .before in
     let at-count = at-caps .before .before .before .before .before in
     let good = at-count .before .before .before .pre in
-    ((good, omega arith, omega (arith, shallow good)), (lent at-count, granted (c .before .links .ensures) (c .if4 .left)))
+    let links = granted (c .before .links .ensures) (c .if4 .left) in
+    ((good, omega arith, omega (arith, shallow good)), (lent at-count, links))
 
 returns-5 : tie.Need-returns-5
 returns-5 c =

@@ -74,7 +74,8 @@ returns-2 : tie.Need-returns-2
 returns-2 c =
     let tested = c .before .before in
     answered (c .refused .ensures)
-    (told-bad-session _ _ _ _ (good-at (tested .before .before) .0) (denied (tested .sound .ensures) (c .before .if2 .taken)))
+    (told-bad-session _ _ _ _ (good-at (tested .before .before) .0)
+    (denied (tested .sound .ensures) (c .before .if2 .taken)))
 
 admit-requires : tie.Need-admit-requires
 admit-requires c κs = proper-at (c .before)
@@ -116,7 +117,9 @@ write-requires c κs =
     let cap = waits .before .before .waiting-cap .ensures in
     let left = left-at (settled .before .before) in
     let out = start-at (checked-at (sound-at (admitted-at (settled .before .before)))) .args .out .now in
-    let fitting = settled-fitting left (settled .settle .ensures) (omega (arith, cap, waits .if5 .left)) out (omega (arith, tested .if6 .left)) in
+    let fitting =
+    settled-fitting left (settled .settle .ensures) (omega (arith, cap, waits .if5 .left)) out
+    (omega (arith, tested .if6 .left)) in
     (left .left .opened .proper .sound .kept, fitting, omega (arith, left-depth (left .left)))
 
 returns-7 : tie.Need-returns-7
@@ -127,10 +130,11 @@ returns-7 c =
     let settled = settled-at waits in
     let cap = waits .before .before .waiting-cap .ensures in
     let r = settled .settle .result in
-    let part = ap (λ (k : ℕ). take k (drop (r .at) (settled .settle .last .0))) (add-sub-cancel-left (r .at) (r .length)) in
+    let work = settled .settle .last .0 in
+    let part = ap (λ (k : ℕ). take k (drop (r .at) work)) (add-sub-cancel-left (r .at) (r .length)) in
     answered (c .taken .ensures)
-    (settled-taken (left-at (settled .before .before)) (settled .settle .ensures) (omega (arith, cap, waits .if5 .left)) _
-    (omega (arith, tested .if6 .left)) (written .write .ensures) part
+    (settled-taken (left-at (settled .before .before)) (settled .settle .ensures)
+    (omega (arith, cap, waits .if5 .left)) _ (omega (arith, tested .if6 .left)) (written .write .ensures) part
     (written .before .before .before .before .before .send .ensures))
 
 pub step-in-spec : {M : Type 1} → statement M

@@ -32,8 +32,9 @@ returns c =
     let start = larger .before .before .before .before .before .before in
     let many = bounds larger in
     c .set-head .ensures
-    ∙ written-all (start .args .work .now) (start .args .depth) (larger .before .before .before .before .count .ensures .0 .0)
-    (start .pre .0) (many .0) (omega (arith, many .1)) (c .before .before .write-places .ensures)
+    ∙ written-all (start .args .work .now) (start .args .depth)
+    (larger .before .before .before .before .count .ensures .0 .0) (start .pre .0) (many .0)
+    (omega (arith, many .1)) (c .before .before .write-places .ensures)
 
 pub write-spec : {M : Type 1} → statement M
 write-spec =

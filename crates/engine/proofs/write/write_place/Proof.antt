@@ -6,7 +6,10 @@ use Rattle.engine.proofs.write.write_place.Statement.{statement}
 use Rattle.engine.proofs.write.write_place.Tie as tie
 
 returns : tie.Need-returns
-returns c = put-none (c .before .before .before .before .before .args .work .now) (c .before .before .before .count .ensures .0 .0) (c .before .before .if1 .taken) (c .clear-entry .ensures)
+returns c =
+    let at-count = c .before .before .before in
+    put-none (at-count .before .before .args .work .now) (at-count .count .ensures .0 .0)
+    (c .before .before .if1 .taken) (c .clear-entry .ensures)
 
 piece-requires : tie.Need-piece-requires
 piece-requires c κs =

@@ -12,7 +12,10 @@ use Rattle.links.proofs.levels.first_on.Tie as tie
 
 abbrev Inv-loop : tie.InvT-loop
 Inv-loop bytes starts below at end i₀ i =
-    (end ≤ 64) × (end ≤ countOf bytes) × (end ≡ startOf starts (levelOf below + 1)) × ((k : ℕ) → k < i → footAt bytes k ≡ below → ⊥)
+    (end ≤ 64)
+    × (end ≤ countOf bytes)
+    × (end ≡ startOf starts (levelOf below + 1))
+    × ((k : ℕ) → k < i → footAt bytes k ≡ below → ⊥)
 
 abbrev μ-loop : tie.MeasureT-loop
 μ-loop bytes starts below at end i₀ i = end - i

@@ -12,7 +12,10 @@ use Rattle.links.proofs.levels.first_with.Tie as tie
 
 abbrev Inv-loop : tie.InvT-loop
 Inv-loop bytes starts above at end i₀ i =
-    (end ≤ 64) × (end ≤ countOf bytes) × (end ≡ startOf starts (levelOf above)) × ((k : ℕ) → k < i → seatAt bytes k ≡ above → ⊥)
+    (end ≤ 64)
+    × (end ≤ countOf bytes)
+    × (end ≡ startOf starts (levelOf above))
+    × ((k : ℕ) → k < i → seatAt bytes k ≡ above → ⊥)
 
 abbrev μ-loop : tie.MeasureT-loop
 μ-loop bytes starts above at end i₀ i = end - i
