@@ -100,7 +100,7 @@ fn marker_faults() {
 fn taken(file: &[u8]) -> u64
     ensures { λ r. ⌜ r ≤ 1 ⌝ }
 {
-    if is_taken(checking::check(file)) {
+    if is_taken(table_check::check(file)) {
         1
     } else {
         0

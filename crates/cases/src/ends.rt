@@ -9,7 +9,7 @@ use crate::tables::fork;
 use crate::tables::g;
 use crate::tables::put;
 use numbers::number_of;
-use places::SIZE;
+use session_bytes::SIZE;
 ghost use Prim.Native.Nat.{_≤_};
 
 pub(crate) fn all() {
@@ -40,7 +40,7 @@ fn asked(file: &[u8], session: &[u8; SIZE], room: usize)
 fn lent(file: &[u8], session: &[u8; SIZE], out: &mut [u8], room: usize) -> numbers::Answer
     requires { do ⌜ room ≤ (← ⟦out.len()⟧) ⌝ }
 {
-    ending::finish(file, session, &mut out[..room])
+    finish::finish(file, session, &mut out[..room])
 }
 
 // A message, and the end.

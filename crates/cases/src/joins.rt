@@ -14,9 +14,9 @@ use crate::readers::list;
 use crate::sessions::opened;
 use crate::steps::message;
 use crate::tables::put;
-use joiner::Joined;
+use join::Joined;
 use numbers::number_of;
-use places::SIZE;
+use session_bytes::SIZE;
 use words::wide;
 ghost use Prim.Native.Nat.{_≤_};
 
@@ -54,7 +54,7 @@ fn in_numbers(joined: Joined) -> Said {
 fn lent(first: &[u8], second: &[u8], out: &mut [u8], room: usize) -> Joined
     requires { do ⌜ room ≤ (← ⟦out.len()⟧) ⌝ }
 {
-    joiner::join(first, second, &mut out[..room])
+    join::join(first, second, &mut out[..room])
 }
 
 // The file that was written.

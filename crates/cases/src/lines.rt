@@ -1,5 +1,5 @@
 // What is printed: a name with its number, and what a call gave and left.
-use places::SIZE;
+use session_bytes::SIZE;
 ghost use Prim.Native.Nat.{_≤_};
 ghost use lib.ListN.{length};
 
@@ -21,9 +21,9 @@ pub(crate) fn told(n: u64, count: u64) {
 
 // The depth of a session, and how many links it has.
 pub(crate) fn held(session: &[u8; SIZE]) {
-    io::print_decimal(1, places::depth(session) as u64);
+    io::print_decimal(1, session_bytes::depth(session) as u64);
     io::write_all(1, b" ");
-    io::print_decimal(1, places::count(session) as u64);
+    io::print_decimal(1, session_bytes::count(session) as u64);
     io::write_all(1, b" ");
 }
 

@@ -3,7 +3,7 @@ use crate::lines::say;
 use crate::tables::g;
 use numbers::is_taken;
 ghost use Prim.Native.Nat.{_<_};
-ghost use Rattle.table.specs.Good.{first, Good};
+ghost use Rattle.table.specs.Good.{firstEdition, GoodFile};
 ghost use Rattle.table.specs.File.{rowCount};
 
 pub(crate) fn all() {
@@ -13,13 +13,13 @@ pub(crate) fn all() {
 
 // What the readers say of a file, if it is good.
 fn readings(file: &[u8]) {
-    if is_taken(checking::check(file)) {
+    if is_taken(table_check::check(file)) {
         show(file);
     }
 }
 
 fn show(file: &[u8])
-    requires { ⌜ Good first (now file) ⌝ }
+    requires { ⌜ GoodFile firstEdition (now file) ⌝ }
 {
     show_head(file);
     show_body(file);
@@ -27,7 +27,7 @@ fn show(file: &[u8])
 }
 
 fn show_head(file: &[u8])
-    requires { ⌜ Good first (now file) ⌝ }
+    requires { ⌜ GoodFile firstEdition (now file) ⌝ }
 {
     say(b"states", table::states(file) as u64);
     say(b"markers", table::markers(file) as u64);
@@ -36,7 +36,7 @@ fn show_head(file: &[u8])
 }
 
 fn show_body(file: &[u8])
-    requires { ⌜ Good first (now file) ⌝ }
+    requires { ⌜ GoodFile firstEdition (now file) ⌝ }
 {
     let starting = table::starting_set(file);
     say(b"starting states", sets::size(starting) as u64);
@@ -52,13 +52,13 @@ fn show_body(file: &[u8])
 
 // The rows of a file, if it is good.
 pub(crate) fn list(file: &[u8]) {
-    if is_taken(checking::check(file)) {
+    if is_taken(table_check::check(file)) {
         show_rows(file);
     }
 }
 
 fn show_rows(file: &[u8])
-    requires { ⌜ Good first (now file) ⌝ }
+    requires { ⌜ GoodFile firstEdition (now file) ⌝ }
 {
     let n = table::row_count(file);
     let mut i = 0;
@@ -69,7 +69,7 @@ fn show_rows(file: &[u8])
 }
 
 fn row(file: &[u8], i: usize)
-    requires { ⌜ (Good first (now file)) × (i < rowCount (now file)) ⌝ }
+    requires { ⌜ (GoodFile firstEdition (now file)) × (i < rowCount (now file)) ⌝ }
 {
     io::print_decimal(1, table::row_symbol(file, i) as u64);
     io::write_all(1, b" ");
@@ -84,7 +84,7 @@ fn row(file: &[u8], i: usize)
 }
 
 fn word(file: &[u8], i: usize)
-    requires { ⌜ (Good first (now file)) × (i < rowCount (now file)) ⌝ }
+    requires { ⌜ (GoodFile firstEdition (now file)) × (i < rowCount (now file)) ⌝ }
 {
     io::write_all(1, table::row_word(file, i));
 }

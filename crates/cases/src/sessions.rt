@@ -5,8 +5,8 @@ use crate::tables::g;
 use crate::tables::put;
 use crate::tables::wide;
 use numbers::is_taken;
-use places::SIZE;
-ghost use Rattle.table.specs.Good.{first, Good};
+use session_bytes::SIZE;
+ghost use Rattle.table.specs.Good.{firstEdition, GoodFile};
 
 pub(crate) fn all() {
     begins();
@@ -19,14 +19,14 @@ pub(crate) fn all() {
 
 // The number for a session: 0 where it is sound for the table, 2 where it is not.
 pub(crate) fn judged(file: &[u8], session: &[u8; SIZE]) -> u64 {
-    if !is_taken(checking::check(file)) {
+    if !is_taken(table_check::check(file)) {
         return 1;
     }
     found(file, session)
 }
 
 fn found(file: &[u8], session: &[u8; SIZE]) -> u64
-    requires { ⌜ Good first (now file) ⌝ }
+    requires { ⌜ GoodFile firstEdition (now file) ⌝ }
 {
     if session::sound(file, session) { 0 } else { 2 }
 }

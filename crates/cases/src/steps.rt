@@ -10,7 +10,7 @@ use crate::tables::g;
 use crate::tables::larger_crowd;
 use crate::tables::put;
 use numbers::number_of;
-use places::SIZE;
+use session_bytes::SIZE;
 ghost use Prim.Native.Nat.{_≤_};
 
 pub(crate) fn all() {
@@ -47,7 +47,7 @@ fn lent(
 ) -> numbers::Answer
     requires { do ⌜ room ≤ (← ⟦out.len()⟧) ⌝ }
 {
-    engine::step(file, session, symbol, &mut out[..room])
+    step::step(file, session, symbol, &mut out[..room])
 }
 
 // Symbol after symbol, with all the room.

@@ -2,9 +2,9 @@
 use mathlib.Core.Path.{_≡_}
 use mathlib.Core.List.{List}
 use Prim.Native.Nat.{ℕ}
-use Rattle.joining.specs.Promises.{Joins}
-use Rattle.joiner.specs.Calls.{JoinedBy}
-use Rattle.joiner.specs.declared.hops.Joined.{Joined}
+use Rattle.join_meaning.specs.Promises.{Joins}
+use Rattle.join.specs.Calls.{JoinedBy}
+use Rattle.join.specs.declared.hops.Joined.{Joined}
 use Rattle.numbers.specs.Numbers.{numberOf as namedNumber}
 
 pub said-joined : {one two out out′ : List ℕ} (r : Joined) {number : ℕ} → number ≡ namedNumber (r .number)

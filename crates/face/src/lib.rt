@@ -1,28 +1,28 @@
 // The calls for programs in C and Rust: each answers the scope's number, and what else a call gives is written where
 // the caller says.
-use engine::WORK;
-use joiner::TAPE;
+use join::TAPE;
+use join_shelf::SHELF;
 use numbers::number_of;
-use places::SIZE;
-use shelf::SHELF;
+use session_bytes::SIZE;
+use step::WORK;
 ghost use mathlib.Core.Path.{_≡_};
 ghost use Rattle.table.specs.Calls.{Judged};
-ghost use Rattle.session.specs.Calls.{Begins};
-ghost use Rattle.stepping.specs.Promises.{Stepped, Finished};
-ghost use Rattle.joining.specs.Promises.{Joins};
+ghost use Rattle.session.specs.Calls.{BeginsSession};
+ghost use Rattle.step_meaning.specs.Promises.{Stepped, Finished};
+ghost use Rattle.join_meaning.specs.Promises.{Joins};
 
 #[no_mangle]
 pub extern "C" fn jermanuts_check(file: &[u8]) -> u32
     ensures { λ r. ⌜ Judged (now (file .entry)) r ⌝ }
 {
-    let number = checking::check(file).number;
+    let number = table_check::check(file).number;
     number_of(number)
 }
 
 #[no_mangle]
 pub extern "C" fn jermanuts_begin(file: &[u8], session: &mut [u8; SIZE], states: &mut u32) -> u32
     ensures { λ r. ⌜
-        Begins (now (file .entry)) (now (session .entry)) r (now (states .exit)) (now (session .exit)) ⌝ }
+        BeginsSession (now (file .entry)) (now (session .entry)) r (now (states .exit)) (now (session .exit)) ⌝ }
 {
     let answer = session::begin(file, session);
     *states = answer.count as u32;
@@ -42,7 +42,7 @@ pub extern "C" fn jermanuts_step(
         Stepped (now (file .entry)) (now (session .entry)) symbol (now (out .entry)) r (now (count .exit))
         (now (session .exit)) (now (out .exit)) ⌝ }
 {
-    let answer = engine::step(file, session, symbol, out);
+    let answer = step::step(file, session, symbol, out);
     *count = answer.count;
     let number = answer.number;
     number_of(number)
@@ -61,7 +61,7 @@ pub extern "C" fn jermanuts_step_in(
         Stepped (now (file .entry)) (now (session .entry)) symbol (now (out .entry)) r (now (count .exit))
         (now (session .exit)) (now (out .exit)) ⌝ }
 {
-    let answer = engine::step_in(file, session, symbol, out, work);
+    let answer = step::step_in(file, session, symbol, out, work);
     *count = answer.count;
     let number = answer.number;
     number_of(number)
@@ -78,7 +78,7 @@ pub extern "C" fn jermanuts_finish(
         Finished (now (file .entry)) (now (session .entry)) (now (out .entry)) r (now (count .exit))
         (now (out .exit)) ⌝ }
 {
-    let answer = ending::finish(file, session, out);
+    let answer = finish::finish(file, session, out);
     *count = answer.count;
     let number = answer.number;
     number_of(number)
@@ -96,7 +96,7 @@ pub extern "C" fn jermanuts_join(
         Joins (now (first .entry)) (now (second .entry)) (now (out .entry)) r (now (which .exit)) (now (count .exit))
         (now (out .exit)) ⌝ }
 {
-    let said = joiner::join(first, second, out);
+    let said = join::join(first, second, out);
     *which = said.table;
     *count = said.count;
     let number = said.number;
@@ -118,7 +118,7 @@ pub extern "C" fn jermanuts_join_in(
         Joins (now (first .entry)) (now (second .entry)) (now (out .entry)) r (now (which .exit)) (now (count .exit))
         (now (out .exit)) ⌝ }
 {
-    let answer = joiner::join_in(first, second, out, marks, rows, tape);
+    let answer = join::join_in(first, second, out, marks, rows, tape);
     *which = answer.table;
     *count = answer.count;
     let number = answer.number;

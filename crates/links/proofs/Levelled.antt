@@ -9,12 +9,12 @@ use lib.ListN.{length, replicate, getD, set, length-set, length-replicate}
 use lib.Seq.{getD-set-same, getD-set-other}
 use Rattle.words.specs.Words.{Bytes}
 use Rattle.words.proofs.Lists.{below-or, getD-byte}
-use Rattle.standing.specs.Bytes.{linkStart, countOf, linkFrom, linkAt}
-use Rattle.standing.specs.Numbers.{seatFrom, footFrom, seatAt, footAt, startOf, levelOf, Graded, Levelled}
-use Rattle.standing.specs.Numbers.{FirstAt, Heaviest}
-use Rattle.standing.proofs.Encoded.{getD-zeros}
+use Rattle.session_meaning.specs.Bytes.{linkStart, linkCount, linkFrom, linkAt}
+use Rattle.session_meaning.specs.Numbers.{seatFrom, footFrom, seatAt, footAt, startOf, levelOf, Graded, Levelled}
+use Rattle.session_meaning.specs.Numbers.{FirstAt, Heaviest}
+use Rattle.session_meaning.proofs.Encoded.{getD-zeros}
 use Rattle.links.proofs.Weighed.{Sought, sought-start, sought-past, sought-all}
-use Rattle.standing.proofs.Started.{same-or}
+use Rattle.session_meaning.proofs.Started.{same-or}
 
 module _ (bytes : List ℕ) (small : Bytes bytes) where
   -- feet and seats say the level
@@ -34,7 +34,7 @@ module _ (bytes : List ℕ) (small : Bytes bytes) where
 pub record Found (bytes starts : List ℕ) (i : ℕ) : Type 0 where
   pub long : length starts ≡ 35
   pub within : (l : ℕ) → startOf starts l ≤ i
-  pub after : (l j : ℕ) → j < countOf bytes → l ≤ linkAt bytes j .level → startOf starts l ≤ j
+  pub after : (l j : ℕ) → j < linkCount bytes → l ≤ linkAt bytes j .level → startOf starts l ≤ j
   pub before : (j : ℕ) → j < i → j < startOf starts (linkAt bytes j .level + 1)
 
 pub found-start : (bytes : List ℕ) → Found bytes (replicate 35 0) 0
@@ -58,7 +58,7 @@ set-at l p v q lt = go (same-or q p)
     go (inr n) = inr (n, getD-set-other l p q v 0 n)
 
 pub found-next : {bytes starts : List ℕ} {i : ℕ} → Graded bytes → Found bytes starts i
-    → i < countOf bytes → (l v : ℕ) → l ≡ linkAt bytes i .level + 1 → v ≡ i + 1 → l < 35
+    → i < linkCount bytes → (l v : ℕ) → l ≡ linkAt bytes i .level + 1 → v ≡ i + 1 → l < 35
     → Found bytes (set starts l v) (i + 1)
 found-next {bytes} {starts} {i} graded f lt l v el ev low =
     record {
@@ -79,7 +79,7 @@ found-next {bytes} {starts} {i} graded f lt l v el ev low =
     lower j (inl e) = subst (λ (k : ℕ). linkAt bytes j .level ≤ linkAt bytes k .level) e (omega arith)
     lower j (inr o) = graded .rise j i o lt
 
-    after : (q j : ℕ) → j < countOf bytes → q ≤ linkAt bytes j .level → At starts l v q → (i < j) ⊎ (j ≤ i)
+    after : (q j : ℕ) → j < linkCount bytes → q ≤ linkAt bytes j .level → At starts l v q → (i < j) ⊎ (j ≤ i)
         → startOf (set starts l v) q ≤ j
     after q j k h (inl a) (inl o) = omega (arith, a .1)
     after q j k h (inl a) (inr o) = absurd (omega (arith, a .0, lower j (eq-or-lt-of-le o)))
@@ -93,7 +93,7 @@ found-next {bytes} {starts} {i} graded f lt l v el ev low =
         let e : i ≡ j = omega arith in
         absurd (a .0 (sym (el ∙ ap (λ (k : ℕ). linkAt bytes k .level + 1) e)))
 
-pub found-all : {bytes starts : List ℕ} {n : ℕ} → Graded bytes → Bytes bytes → n ≡ countOf bytes → Found bytes starts n
+pub found-all : {bytes starts : List ℕ} {n : ℕ} → Graded bytes → Bytes bytes → n ≡ linkCount bytes → Found bytes starts n
     → Levelled bytes starts
 found-all {bytes} graded small e f =
     record {
@@ -109,22 +109,22 @@ module _ {bytes starts : List ℕ} (v : Levelled bytes starts) (foot : ℕ) wher
   on-level : (k : ℕ) → footAt bytes k ≡ foot → linkAt bytes k .level ≡ levelOf foot
   on-level k e = sym (foot-level bytes (v .small) (linkStart k)) ∙ ap levelOf e
 
-  pub foot-after : (k : ℕ) → k < countOf bytes → footAt bytes k ≡ foot → startOf starts (levelOf foot) ≤ k
+  pub foot-after : (k : ℕ) → k < linkCount bytes → footAt bytes k ≡ foot → startOf starts (levelOf foot) ≤ k
   foot-after k l e = subst (λ (m : ℕ). startOf starts m ≤ k) (on-level k e) (v .after k l)
 
-  pub foot-before : (k : ℕ) → k < countOf bytes → footAt bytes k ≡ foot → k < startOf starts (levelOf foot + 1)
+  pub foot-before : (k : ℕ) → k < linkCount bytes → footAt bytes k ≡ foot → k < startOf starts (levelOf foot + 1)
   foot-before k l e = subst (λ (m : ℕ). k < startOf starts (m + 1)) (on-level k e) (v .before k l)
 
   -- and those that they stand on between the two before
   under-level : (k : ℕ) → seatAt bytes k ≡ foot → linkAt bytes k .level + 1 ≡ levelOf foot
   under-level k e = sym (seat-level bytes (v .small) (linkStart k)) ∙ ap levelOf e
 
-  pub seat-after : (k : ℕ) → k < countOf bytes → seatAt bytes k ≡ foot → startOf starts (levelOf foot - 1) ≤ k
+  pub seat-after : (k : ℕ) → k < linkCount bytes → seatAt bytes k ≡ foot → startOf starts (levelOf foot - 1) ≤ k
   seat-after k l e =
       let u : linkAt bytes k .level ≡ levelOf foot - 1 = omega (arith, under-level k e) in
       subst (λ (m : ℕ). startOf starts m ≤ k) u (v .after k l)
 
-  pub seat-before : (k : ℕ) → k < countOf bytes → seatAt bytes k ≡ foot → k < startOf starts (levelOf foot)
+  pub seat-before : (k : ℕ) → k < linkCount bytes → seatAt bytes k ≡ foot → k < startOf starts (levelOf foot)
   seat-before k l e = subst (λ (m : ℕ). k < startOf starts m) (under-level k e) (v .before k l)
 
 -- the most, at the start of the level
@@ -135,7 +135,7 @@ sought-level {bytes} {foot} starts s e =
     subst (λ (k : ℕ). Sought bytes foot t k 0) (sym e) (sought-start bytes foot t)
 
 -- links without the foot are passed over
-sought-to : {bytes : List ℕ} {foot from n : ℕ} (d j t : ℕ) → j + d ≡ t → t ≤ countOf bytes
+sought-to : {bytes : List ℕ} {foot from n : ℕ} (d j t : ℕ) → j + d ≡ t → t ≤ linkCount bytes
     → ((k : ℕ) → j ≤ k → k < t → footAt bytes k ≡ foot → ⊥) → Sought bytes foot from j n → Sought bytes foot from t n
 sought-to {bytes} {foot} {from} {n} zero j t e le no-foot s =
     let f : j ≡ t = omega arith in
@@ -147,10 +147,10 @@ sought-to (suc d) j t e le no-foot s =
 module _ {bytes starts : List ℕ} (v : Levelled bytes starts) {foot : ℕ} where
   -- the most, from the start of the level to its end, and from any place before
   pub sought-ended : {from j n : ℕ} → Sought bytes foot from j n → startOf starts (levelOf foot + 1) ≤ j
-      → j ≤ countOf bytes → Heaviest bytes foot from n
+      → j ≤ linkCount bytes → Heaviest bytes foot from n
   sought-ended {j = j} s e le =
       sought-all
-      (sought-to (countOf bytes - j) j (countOf bytes) (omega arith) (omega arith)
+      (sought-to (linkCount bytes - j) j (linkCount bytes) (omega arith) (omega arith)
       (λ k a b f. omega (arith, foot-before v foot k b f)) s)
       (omega arith)
 
@@ -165,7 +165,7 @@ module _ {bytes starts : List ℕ} (v : Levelled bytes starts) {foot : ℕ} wher
       record { is = λ test p. omega (arith, h .is test p, s .is test p) }
 
 -- what stands on a link comes after it, at a level that has a start and an end
-module _ {bytes starts : List ℕ} (v : Levelled bytes starts) (i : ℕ) (l : i < countOf bytes) where
+module _ {bytes starts : List ℕ} (v : Levelled bytes starts) (i : ℕ) (l : i < linkCount bytes) where
   over : {foot : ℕ} → foot ≡ seatAt bytes i → levelOf foot ≡ linkAt bytes i .level + 1
   over e = ap levelOf e ∙ seat-level bytes (v .small) (linkStart i)
 

@@ -16,9 +16,9 @@ use Rattle.words.specs.Words.{Bytes}
 use Rattle.words.proofs.Lists.{below-or, getD-byte}
 use Rattle.words.proofs.Pasted.{Pasted, pasted, stored}
 use Rattle.words.specs.LittleEndian.{byte}
-use Rattle.standing.specs.Bytes.{linkStart, lengthStart, pair, lengthAt, belowFrom, linkFrom, linkAt}
-use Rattle.standing.specs.Bytes.{NoneBelow, belowBytes, linkBytes}
-use Rattle.standing.specs.Numbers.{headSize, keyAt}
+use Rattle.session_meaning.specs.Bytes.{linkStart, lengthStart, pair, lengthAt, belowFrom, linkFrom, linkAt}
+use Rattle.session_meaning.specs.Bytes.{NoneBelow, belowBytes, linkBytes}
+use Rattle.session_meaning.specs.Numbers.{headSize, keyAt}
 use Rattle.links.specs.declared.Link.{Link}
 use Rattle.links.specs.Heads.{fiveOf, keyOf, meant, Read, withLink, Gapped}
 

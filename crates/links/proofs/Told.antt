@@ -6,9 +6,9 @@ use Prim.Native.Nat.{ℕ, _+_, _-_, _*_, _/_, _%_, _<_, _≤_}
 use native.Mathlib.Omega.{arith}
 use lib.Seq.{ext-getD}
 use Rattle.words.proofs.Lists.{below-or}
-use Rattle.standing.specs.Bytes.{linkStart, lengthStart}
-use Rattle.standing.specs.Numbers.{FirstAt}
-use Rattle.standing.proofs.Held.{within}
+use Rattle.session_meaning.specs.Bytes.{linkStart, lengthStart}
+use Rattle.session_meaning.specs.Numbers.{FirstAt}
+use Rattle.session_meaning.proofs.Held.{within}
 use Rattle.words.specs.declared.byte_order.Order.{Order}
 use Rattle.words.specs.declared.byte_order.Order.the-variants.{Before, Same, After}
 use Rattle.words.specs.LittleEndian.{byte}

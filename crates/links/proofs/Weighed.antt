@@ -13,27 +13,27 @@ use Rattle.words.specs.Lists.{upTo}
 use Rattle.words.specs.Words.{Bytes}
 use Rattle.words.proofs.Lists.{below-or, getD-map-upTo, length-upTo}
 use Rattle.meaning.specs.Trails.{Link}
-use Rattle.standing.specs.Sessions.{onBottom, standsOn}
-use Rattle.standing.specs.Soundly.{Load, most, loadsOf, longestOf}
-use Rattle.standing.specs.Bytes.{linkStart, countOf, lengthAt, linkAt, NoneBelow, noEntry}
-use Rattle.standing.specs.Numbers.{seatAt, footAt, Weighable, weightAt, weights, loadsFrom, loadAt, Weighed}
-use Rattle.standing.specs.Numbers.{Picks, Heaviest}
-use Rattle.standing.proofs.Feet.{stands-foot, bottom-foot}
+use Rattle.session_meaning.specs.Sessions.{onBottom, standsOn}
+use Rattle.session_meaning.specs.Soundly.{Load, most, loadsOf, longestOf}
+use Rattle.session_meaning.specs.Bytes.{linkStart, linkCount, lengthAt, linkAt, NoneBelow, noEntry}
+use Rattle.session_meaning.specs.Numbers.{seatAt, footAt, Weighable, weightAt, weights, loadsFrom, loadAt, Weighed}
+use Rattle.session_meaning.specs.Numbers.{Picks, Heaviest}
+use Rattle.session_meaning.proofs.Feet.{stands-foot, bottom-foot}
 
 module _ (bytes : List ℕ) where
-  weighed : length (weights bytes) ≡ countOf bytes
-  weighed = length-map (upTo (countOf bytes)) (weightAt bytes) ∙ length-upTo (countOf bytes)
+  weighed : length (weights bytes) ≡ linkCount bytes
+  weighed = length-map (upTo (linkCount bytes)) (weightAt bytes) ∙ length-upTo (linkCount bytes)
 
   -- the loads from a place on: that of the link there, and those after it
-  loads-next : (j : ℕ) → j < countOf bytes
+  loads-next : (j : ℕ) → j < linkCount bytes
       → loadsFrom bytes j ≡ record { link = linkAt bytes j; bytes = loadAt bytes j } ∷ loadsFrom bytes (j + 1)
   unfolding loadsFrom loadAt
   loads-next j lt =
       let d : Load = record { link = noEntry .link; bytes = 0 } in
-      let a = getD-map-upTo (weightAt bytes) (countOf bytes) j d lt in
+      let a = getD-map-upTo (weightAt bytes) (linkCount bytes) j d lt in
       rw (add-one j, drop-cons (weights bytes) j d (omega (arith, weighed)), a)
 
-  loads-end : (j : ℕ) → countOf bytes ≤ j → loadsFrom bytes j ≡ []
+  loads-end : (j : ℕ) → linkCount bytes ≤ j → loadsFrom bytes j ≡ []
   unfolding loadsFrom
   loads-end j le =
       let l : length (weights bytes) ≤ j = omega (arith, weighed) in
@@ -43,11 +43,11 @@ module _ (bytes : List ℕ) where
     abbrev mostFrom : ℕ → ℕ
     mostFrom j = most test (loadsFrom bytes j)
 
-    most-next : (j : ℕ) → j < countOf bytes → (b : Bool) → test (linkAt bytes j) ≡ b
+    most-next : (j : ℕ) → j < linkCount bytes → (b : Bool) → test (linkAt bytes j) ≡ b
         → mostFrom j ≡ cond b (max (loadAt bytes j) (mostFrom (j + 1))) (mostFrom (j + 1))
     most-next j lt b e = rw (loads-next j lt, e)
 
-    most-end : (j : ℕ) → countOf bytes ≤ j → mostFrom j ≡ 0
+    most-end : (j : ℕ) → linkCount bytes ≤ j → mostFrom j ≡ 0
     most-end j le = rw (loads-end j le)
 
 -- the most so far and that from `j` on make the most from `from` on
@@ -60,7 +60,7 @@ pub sought-start : (bytes : List ℕ) (foot from : ℕ) → Sought bytes foot fr
 sought-start bytes foot from = record { within = omega arith; is = λ test p. omega arith }
 
 module _ {bytes : List ℕ} {foot from j n : ℕ} (s : Sought bytes foot from j n) where
-  pub sought-past : {m : ℕ} → j < countOf bytes → (footAt bytes j ≡ foot → ⊥) → m ≡ n
+  pub sought-past : {m : ℕ} → j < linkCount bytes → (footAt bytes j ≡ foot → ⊥) → m ≡ n
       → Sought bytes foot from (j + 1) m
   sought-past lt f e =
       record {
@@ -70,7 +70,7 @@ module _ {bytes : List ℕ} {foot from j n : ℕ} (s : Sought bytes foot from j 
             omega (arith, s .is test p, most-next bytes test j lt false (p j lt ∙ ne-eqb (footAt bytes j) foot f));
       }
 
-  pub sought-met : {m : ℕ} {loads : List ℕ} → j < countOf bytes → footAt bytes j ≡ foot → Weighed bytes loads from
+  pub sought-met : {m : ℕ} {loads : List ℕ} → j < linkCount bytes → footAt bytes j ≡ foot → Weighed bytes loads from
       → m ≡ max n (getD loads j 0) → Sought bytes foot from (j + 1) m
   sought-met lt f w e =
       let load = w .each j (s .within) lt in
@@ -81,7 +81,7 @@ module _ {bytes : List ℕ} {foot from j n : ℕ} (s : Sought bytes foot from j 
             omega (arith, s .is test p, most-next bytes test j lt true (p j lt ∙ eq-eqb (footAt bytes j) foot f));
       }
 
-  pub sought-all : countOf bytes ≤ j → Heaviest bytes foot from n
+  pub sought-all : linkCount bytes ≤ j → Heaviest bytes foot from n
   sought-all le = record { is = λ test p. omega (arith, s .is test p, most-end bytes test j le) }
 
 -- a link is weighed by its piece and the most of what stands on it
@@ -95,26 +95,26 @@ module _ {bytes : List ℕ} (able : Weighable bytes) where
   abbrev Roomy : ℕ → ℕ → Type 0
   Roomy n j = (test : Link → Bool) → most test (loadsFrom bytes j) ≤ 1023 * n
 
-  load-small : (n j : ℕ) → j < countOf bytes → Roomy n (j + 1) → loadAt bytes j ≤ 1023 * suc n
+  load-small : (n j : ℕ) → j < linkCount bytes → Roomy n (j + 1) → loadAt bytes j ≤ 1023 * suc n
   load-small n j lt h =
       omega (arith, load-of bytes j, h (standsOn (linkAt bytes j)), able .short j lt)
 
-  most-small : (n j : ℕ) → j + n ≡ countOf bytes → Roomy n j
+  most-small : (n j : ℕ) → j + n ≡ linkCount bytes → Roomy n j
   most-small zero j e test = omega (arith, most-end bytes test j (omega arith))
   most-small (suc n) j e test = go (test (linkAt bytes j)) refl (most-small n (j + 1) (omega arith)) (omega arith)
     where
-      go : (b : Bool) → test (linkAt bytes j) ≡ b → Roomy n (j + 1) → j < countOf bytes
+      go : (b : Bool) → test (linkAt bytes j) ≡ b → Roomy n (j + 1) → j < linkCount bytes
           → most test (loadsFrom bytes j) ≤ 1023 * suc n
       go true t h lt = omega (arith, h test, load-small n j lt h, most-next bytes test j lt true t)
       go false t h lt = omega (arith, h test, most-next bytes test j lt false t)
 
-  pub loads-small : (i : ℕ) → i < countOf bytes → loadAt bytes i ≤ 1023 * countOf bytes
+  pub loads-small : (i : ℕ) → i < linkCount bytes → loadAt bytes i ≤ 1023 * linkCount bytes
   loads-small i lt =
-      let n = countOf bytes - (i + 1) in
+      let n = linkCount bytes - (i + 1) in
       omega (arith, load-small n i lt (most-small n (i + 1) (omega arith)))
 
   -- what waits at level 0 is all that waits
-  pub heaviest-longest : {r : ℕ} → ((j : ℕ) → j < countOf bytes → NoneBelow bytes (linkStart j)) → Heaviest bytes 0 0 r
+  pub heaviest-longest : {r : ℕ} → ((j : ℕ) → j < linkCount bytes → NoneBelow bytes (linkStart j)) → Heaviest bytes 0 0 r
       → r ≡ longestOf (weights bytes)
   unfolding loadsFrom
   heaviest-longest below h = h .is onBottom (λ j l. bottom-foot bytes j (able .plain j l) (below j l))
@@ -127,7 +127,7 @@ heaviest-load {bytes} i small e f h =
     rw (load-of, e, m)
 
 -- the links weighed: at the start, of those from a place on, and one more
-pub weighed-none : (bytes loads : List ℕ) (i : ℕ) → countOf bytes ≤ i → Weighed bytes loads i
+pub weighed-none : (bytes loads : List ℕ) (i : ℕ) → linkCount bytes ≤ i → Weighed bytes loads i
 weighed-none bytes loads i le = record { each = λ k l m. absurd (omega arith) }
 
 pub weighed-on : {bytes loads : List ℕ} {i j : ℕ} → Weighed bytes loads i → i ≤ j → Weighed bytes loads j
@@ -137,7 +137,7 @@ pub weighed-next : {bytes loads : List ℕ} {i : ℕ} (v : ℕ) → Weighed byte
     → v ≡ loadAt bytes i → Weighed bytes (set loads i v) i
 weighed-next {bytes} {loads} {i} v w lt e = record { each = λ k l m. go k m (below-or i k) l }
   where
-    go : (k : ℕ) → k < countOf bytes → (i < k) ⊎ (k ≤ i) → i ≤ k → getD (set loads i v) k 0 ≡ loadAt bytes k
+    go : (k : ℕ) → k < linkCount bytes → (i < k) ⊎ (k ≤ i) → i ≤ k → getD (set loads i v) k 0 ≡ loadAt bytes k
     go k m (inl o) l = getD-set-other loads i k v 0 (λ e. omega arith) ∙ w .each k (omega arith) m
     go k m (inr o) l =
         let f : i ≡ k = omega arith in

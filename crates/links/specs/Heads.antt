@@ -1,5 +1,5 @@
 -- A link as five bytes by value, and what is left where links and lengths are written. A head is what a session begins
--- with (`standing/specs/Bytes`): depth, count, 64 links of five bytes, 64 lengths of two.
+-- with (`session_meaning/specs/Bytes`): depth, count, 64 links of five bytes, 64 lengths of two.
 use mathlib.Core.Path.{_≡_}
 use mathlib.Core.Logic.{_⊎_}
 use mathlib.Core.Bool.{cond}
@@ -9,8 +9,8 @@ use Prim.Native.Nat.{ℕ, _+_, _*_, _/_, _%_, _<_, _≤_}
 use lib.Dec.{eqb}
 use lib.ListN.{length, set}
 use Rattle.meaning.specs.Trails as trails
-use Rattle.standing.specs.Bytes.{linkStart, lengthStart, pair}
-use Rattle.standing.specs.Numbers.{headSize, keyAt, linksEnd, lengthsEnd, Clear}
+use Rattle.session_meaning.specs.Bytes.{linkStart, lengthStart, pair}
+use Rattle.session_meaning.specs.Numbers.{headSize, keyAt, linksEnd, lengthsEnd, Clear}
 use Rattle.words.specs.declared.byte_order.Order.{Order}
 use Rattle.words.specs.declared.byte_order.Order.the-variants.{Before, Same, After}
 use Rattle.words.specs.LittleEndian.{byte}

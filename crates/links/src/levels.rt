@@ -6,8 +6,8 @@ use crate::seat;
 use words::wide;
 ghost use mathlib.Core.Path.{_≡_};
 ghost use Prim.Native.Nat.{_<_};
-ghost use Rattle.standing.specs.Bytes.{countOf};
-ghost use Rattle.standing.specs.Numbers.{seatAt, footAt, startOf, levelOf, Graded, Levelled, FirstAt};
+ghost use Rattle.session_meaning.specs.Bytes.{linkCount};
+ghost use Rattle.session_meaning.specs.Numbers.{seatAt, footAt, startOf, levelOf, Graded, Levelled, FirstAt};
 
 // Levels 0 to 32, that of what would stand on the last of them, and where it would end.
 pub const LEVELS: usize = 35;
@@ -41,7 +41,7 @@ pub fn find(bytes: &[u8], starts: &mut [u8; LEVELS])
 // The first of the links with this foot, which are of one level; the count where there is none.
 pub fn first_on(bytes: &[u8], starts: &[u8; LEVELS], below: usize) -> usize
     requires { ⌜ Levelled (now bytes) (now starts) × (levelOf below < 34) ⌝ }
-    ensures { λ r. ⌜ FirstAt (footAt (now (bytes .entry))) (countOf (now (bytes .entry))) below r ⌝ }
+    ensures { λ r. ⌜ FirstAt (footAt (now (bytes .entry))) (linkCount (now (bytes .entry))) below r ⌝ }
 {
     let at = below / PAIRS;
     let end = start(starts, at + 1);
@@ -58,7 +58,7 @@ pub fn first_on(bytes: &[u8], starts: &[u8; LEVELS], below: usize) -> usize
 // The first of the links with this seat, which are of the level before that of what stands on it.
 pub fn first_with(bytes: &[u8], starts: &[u8; LEVELS], above: usize) -> usize
     requires { ⌜ Levelled (now bytes) (now starts) × (0 < levelOf above) × (levelOf above < 35) ⌝ }
-    ensures { λ r. ⌜ FirstAt (seatAt (now (bytes .entry))) (countOf (now (bytes .entry))) above r ⌝ }
+    ensures { λ r. ⌜ FirstAt (seatAt (now (bytes .entry))) (linkCount (now (bytes .entry))) above r ⌝ }
 {
     let at = above / PAIRS;
     let end = start(starts, at);

@@ -19,8 +19,8 @@ ghost use lib.ListN.{length};
 ghost use Rattle.words.specs.Lists.{Exact};
 ghost use Rattle.words.specs.Words.{Bytes};
 ghost use Rattle.words.specs.LittleEndian.{byte};
-ghost use Rattle.standing.specs.Bytes.{linkStart, countOf, lengthAt, belowAt, linkAt};
-ghost use Rattle.standing.specs.Numbers.{headSize, pairs, keys, seatAt, footAt, keyAt, Clear};
+ghost use Rattle.session_meaning.specs.Bytes.{linkStart, linkCount, lengthAt, belowAt, linkAt};
+ghost use Rattle.session_meaning.specs.Numbers.{headSize, pairs, keys, seatAt, footAt, keyAt, Clear};
 ghost use Rattle.links.specs.Heads.{keyOf, Read, Compared, RestClear};
 
 // Where links and lengths start, and where they end.
@@ -49,7 +49,7 @@ pub fn depth(bytes: &[u8]) -> usize
 // It also promises what the type says of all bytes: nothing else could tell its callers.
 pub fn count(bytes: &[u8]) -> usize
     requires { ⌜ headSize ≤ length (now bytes) ⌝ }
-    ensures { λ r. ⌜ (r ≡ countOf (now (bytes .entry))) × (r < 256) ⌝ }
+    ensures { λ r. ⌜ (r ≡ linkCount (now (bytes .entry))) × (r < 256) ⌝ }
     ensures { λ _. ⌜ Bytes (now (bytes .entry)) ⌝ }
 {
     wide(bytes[1])
@@ -173,7 +173,7 @@ pub fn blank(bytes: &[u8], start: usize, end: usize) -> bool
 
 // Whether the places of links and lengths that are not used are.
 pub fn rest_blank(bytes: &[u8]) -> bool
-    requires { ⌜ (headSize ≤ length (now bytes)) × (countOf (now bytes) ≤ 64) ⌝ }
+    requires { ⌜ (headSize ≤ length (now bytes)) × (linkCount (now bytes) ≤ 64) ⌝ }
     ensures { λ r. ⌜ Exact (RestClear (now (bytes .entry))) r ⌝ }
 {
     let n = count(bytes);

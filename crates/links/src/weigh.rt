@@ -9,9 +9,9 @@ use crate::seat;
 use words::larger;
 ghost use mathlib.Core.Path.{_≡_};
 ghost use Prim.Native.Nat.{_+_, _<_};
-ghost use Rattle.standing.specs.Soundly.{longestOf};
-ghost use Rattle.standing.specs.Bytes.{countOf};
-ghost use Rattle.standing.specs.Numbers.{startOf, levelOf, Levelled, Weighable, weights, Weighed, Heaviest};
+ghost use Rattle.session_meaning.specs.Soundly.{longestOf};
+ghost use Rattle.session_meaning.specs.Bytes.{linkCount};
+ghost use Rattle.session_meaning.specs.Numbers.{startOf, levelOf, Levelled, Weighable, weights, Weighed, Heaviest};
 
 // A load, of 64 pieces at most, which has room in 16 bits, as a number.
 fn load(bits: u16) -> usize
@@ -42,7 +42,7 @@ fn most_on(bytes: &[u8], starts: &[u8; LEVELS], loads: &[u16; 64], below: usize)
 // Weighs a link: its piece and the most of what stands on it.
 fn weigh(bytes: &[u8], starts: &[u8; LEVELS], loads: &mut [u16; 64], i: usize)
     requires { ⌜ Levelled (now bytes) (now starts) × Weighable (now bytes) ⌝ }
-    requires { ⌜ (i < countOf (now bytes)) × Weighed (now bytes) (now loads) (i + 1) ⌝ }
+    requires { ⌜ (i < linkCount (now bytes)) × Weighed (now bytes) (now loads) (i + 1) ⌝ }
     ensures { λ _. ⌜ Weighed (now (bytes .entry)) (now (loads .exit)) i ⌝ }
 {
     let above = most_on(bytes, starts, loads, seat(bytes, i));

@@ -7,8 +7,8 @@ use crate::read;
 ghost use mathlib.Core.Path.{_≡_};
 ghost use Prim.Native.Nat.{_+_, _≤_, _<_};
 ghost use lib.ListN.{length, set};
-ghost use Rattle.standing.specs.Bytes.{linkStart};
-ghost use Rattle.standing.specs.Numbers.{headSize, pairs};
+ghost use Rattle.session_meaning.specs.Bytes.{linkStart};
+ghost use Rattle.session_meaning.specs.Numbers.{headSize, pairs};
 ghost use Rattle.links.specs.Heads.{withLength, withLink, Gapped};
 
 // The depth, and how many links there are.

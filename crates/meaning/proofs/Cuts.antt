@@ -8,7 +8,7 @@ use Rattle.words.specs.Lists.{_among_, each}
 use Rattle.words.proofs.Lists.{empty-out}
 use Rattle.meaning.specs.Table.{Class, unused, call, return, internal}
 use Rattle.meaning.specs.Runs.{Shifts}
-use Rattle.meaning.specs.Joining.{Mark, mark, number, startsOf, leaves, markerOf}
+use Rattle.meaning.specs.Joining.{Mark, mark, markNumber, startsOf, leaves, markerOf}
 use Rattle.meaning.proofs.Joined.{number-one, starts-in, starts-out}
 
 -- the three stacks of a list of marks: the first's, the second's and the joined one
@@ -19,7 +19,7 @@ abbrev pub lefts : List Mark → List ℕ
 lefts X = each (λ y. y .left) X
 
 abbrev pub numbers : List Mark → List Mark → List ℕ
-numbers L X = map (number L) X
+numbers L X = map (markNumber L) X
 
 abbrev pub Within : List Mark → List Mark → Type 0
 Within L X = (y : Mark) → y among X → y among L

@@ -7,12 +7,12 @@ use native.Mathlib.Omega.{arith}
 use Rattle.words.specs.Lists.{_among_}
 use Rattle.words.specs.Words.{Word}
 use Rattle.words.proofs.Lists.{first-of}
-use Rattle.meaning.specs.Table.{call, return, Table, Limits, Good}
+use Rattle.meaning.specs.Table.{call, return, Table, Limits, GoodTable}
 use Rattle.meaning.specs.Runs.{tally, depth}
 use Rattle.meaning.specs.Trails.{ground}
 use Rattle.meaning.specs.Living.{Place, place, moved, begun, living}
 use Rattle.meaning.specs.Answers.{Moment, opened, deeper, sending, held, sends, stepTests, stepNumber}
-use Rattle.meaning.specs.Answers.{Taken, none, more}
+use Rattle.meaning.specs.Answers.{AllTaken, none, more}
 use Rattle.meaning.specs.Sentences.{Agreed}
 use Rattle.meaning.proofs.Tests.{fails}
 use Rattle.meaning.proofs.Living.{living-snoc}
@@ -31,7 +31,7 @@ pub holds-depth : {T : Table} {u z : Word} {m : Moment} → Holds T u z m → m 
 holds-depth h = let e = h .count in omega arith
 
 -- a fresh session
-pub begun-holds : {L : Limits} {T : Table} → Good L T → Holds T [] [] (opened T)
+pub begun-holds : {L : Limits} {T : Table} → GoodTable L T → Holds T [] [] (opened T)
 begun-holds {T = T} g =
     let i = Memᴰ·map (λ q. place (ground q) []) (g .some .1) in
     let runs : Alike (living T []) (ahead [] (begun T)) = alike-is (sym (map-id (begun T))) in
@@ -73,6 +73,6 @@ module _ {T : Table} {u z : Word} {m : Moment} (h : Holds T u z m) (a : ℕ) whe
       }
 
 -- a message all taken
-pub holds : {L : Limits} {T : Table} → Good L T → {u z : Word} {m : Moment} → Taken T u z m → Holds T u z m
+pub holds : {L : Limits} {T : Table} → GoodTable L T → {u z : Word} {m : Moment} → AllTaken T u z m → Holds T u z m
 holds g none = begun-holds g
 holds g (more a room t e) = follows-holds (holds g t) a room e refl (λ p. (λ i. i, λ i. i))

@@ -5,10 +5,10 @@ use mathlib.Core.List.{List, [], _∷_, _++_, map, List·Memᴰ·not-nil, cons�
 use Prim.Native.Nat.{ℕ, _<_}
 use Rattle.words.specs.Lists.{_among_}
 use Rattle.words.specs.Words.{Word}
-use Rattle.meaning.specs.Table.{Row, Table, Limits, Good}
+use Rattle.meaning.specs.Table.{Row, Table, Limits, GoodTable}
 use Rattle.meaning.specs.Runs.{Config, Move, Steps, stop, next, said, fresh, Accepting, Allowed}
 use Rattle.meaning.specs.Nesting.{Nests}
-use Rattle.meaning.specs.Joining.{pair, marks, number, joined, After}
+use Rattle.meaning.specs.Joining.{pairNumber, marks, markNumber, joined, Through}
 use Rattle.meaning.proofs.Reading.{run-said, run-join, run-split}
 use Rattle.meaning.proofs.Frames.{Closes, run-closes}
 use Rattle.meaning.proofs.Joined.{pairsOf-in, pairsOf-out, pairsOf-parts, rowOf}
@@ -47,7 +47,7 @@ record Runs {A B : Table} (S : Stage A B) (u : Word) (Z : Stage A B) : Type 0 wh
 runs-stop : {A B : Table} (S : Stage A B) → Runs S [] S
 runs-stop S = record { firstRows = []; secondRows = []; joinedRows = []; first = stop; second = stop; joined = stop }
 
-module _ {L : Limits} (A B : Table) (good : Good L B) where
+module _ {L : Limits} (A B : Table) (good : GoodTable L B) where
   runs-next : (S : Stage A B) (v : Advance S) {Z : Stage A B} {a : ℕ} {u : Word} → v .row .by .symbol ≡ a
       → Runs (onward good S v) u Z → Runs S (a ∷ u) Z
   runs-next S v e x =
@@ -91,7 +91,7 @@ module _ {L : Limits} (A B : Table) (good : Good L B) where
     where
       to : Accepting (joined A B) (inJoined Z) → Accepting A (inFirst Z) × Accepting B (inSecond Z)
       to a =
-          let e = map-nil (number (marks A B)) (Z .cut) (a .empty) in
+          let e = map-nil (markNumber (marks A B)) (Z .cut) (a .empty) in
           let f =
           pairsOf-parts (B .states) (A .final) (B .final) (Z .first) (Z .second) (good .final .below) (Z .inside)
           (a .final) in
@@ -102,7 +102,7 @@ module _ {L : Limits} (A B : Table) (good : Good L B) where
           let e = map-nil (λ y. y .marker) (Z .cut) (x .0 .empty) in
           record { final = pairsOf-in (B .states) (x .0 .final) (x .1 .final); empty = ap (numbers (marks A B)) e }
 
-  joined-sound : (u w : Word) → Allowed (joined A B) u w → After A B u w
+  joined-sound : (u w : Word) → Allowed (joined A B) u w → Through A B u w
   joined-sound u w c =
       let x = pairsOf-out (B .states) (A .starting) (B .starting) (c .run .starts) in
       let S = started A B (x .0) (x .1) (good .starting .below (x .1) (x .3)) in
@@ -126,7 +126,7 @@ module _ {L : Limits} (A B : Table) (good : Good L B) where
             };
       }
 
-  joined-complete : Nests (B .class) A → (u w : Word) → After A B u w → Allowed (joined A B) u w
+  joined-complete : Nests (B .class) A → (u w : Word) → Through A B u w → Allowed (joined A B) u w
   joined-complete nests u w c =
       let f = c .first .run in
       let g = c .second .run in
@@ -139,7 +139,7 @@ module _ {L : Limits} (A B : Table) (good : Good L B) where
       record {
         run =
             record {
-              start = pair (B .states) (f .start) (g .start);
+              start = pairNumber (B .states) (f .start) (g .start);
               rows = y .3 .joinedRows;
               end = inJoined (y .0);
               starts = pairsOf-in (B .states) (f .starts) (g .starts);
@@ -153,5 +153,5 @@ module _ {L : Limits} (A B : Table) (good : Good L B) where
       none s e m i = absurd (List·Memᴰ·not-nil (rw e at i))
 
   -- demand 3; 000, theorem 43
-  pub joined-exact : Nests (B .class) A → (u w : Word) → Allowed (joined A B) u w ↔ After A B u w
+  pub joined-exact : Nests (B .class) A → (u w : Word) → Allowed (joined A B) u w ↔ Through A B u w
   joined-exact nests u w = (joined-sound u w, joined-complete nests u w)

@@ -14,9 +14,10 @@ use Rattle.words.proofs.Lists.{each-out}
 use Rattle.words.proofs.Order.{first-less, rises-map, rises-append}
 use Rattle.words.proofs.Arranged.{rank-below}
 use Rattle.meaning.specs.Table.{Class, unused, call, return, internal, Row, Table, Limits, MarkFits, GoodSet}
-use Rattle.meaning.specs.Table.{GoodRow, Good}
+use Rattle.meaning.specs.Table.{GoodRow, GoodTable}
 use Rattle.meaning.specs.Nesting.{Nests}
-use Rattle.meaning.specs.Joining.{pair, pairsOf, Mark, mark, markKey, marks, number, startsOf, markerOf, joined}
+use Rattle.meaning.specs.Joining.{pairNumber, pairsOf, Mark, mark, markKey, marks, markNumber, startsOf, markerOf}
+use Rattle.meaning.specs.Joining.{joined}
 use Rattle.meaning.specs.Joining.{large, joinTests, joinNumber}
 use Rattle.meaning.proofs.Nesting.{nests-exact}
 use Rattle.meaning.proofs.Reading.{run-said, run-rows}
@@ -28,7 +29,7 @@ use Rattle.meaning.proofs.Tests.{fails}
 
 -- sets of pairs
 
-pair-below : (m n p q : ℕ) → p < m → q < n → pair n p q < m * n
+pair-below : (m n p q : ℕ) → p < m → q < n → pairNumber n p q < m * n
 pair-below m n p q h k = let l = mul-le-mul-right n h in omega arith
 
 abbrev Rising : List ℕ → Type 0
@@ -38,12 +39,12 @@ pairs-rise : (n : ℕ) (ps qs : List ℕ) → Rising ps → Rising qs → ((q : 
     → Rising (pairsOf n ps qs)
 pairs-rise n [] qs r s h = tt
 pairs-rise n (p ∷ ps) qs r s h =
-    rises-append (λ q. q ∷ []) (map (pair n p) qs) (pairsOf n ps qs)
-    (rises-map (λ q. q ∷ []) (λ q. q ∷ []) (pair n p) (λ a b l. inl (omega (arith, first-less l))) qs s)
-    (pairs-rise n ps qs (r .1) s h) (λ x y i k. go x y (Memᴰ·of-map (pair n p) qs i) (pairsOf-out n ps qs k))
+    rises-append (λ q. q ∷ []) (map (pairNumber n p) qs) (pairsOf n ps qs)
+    (rises-map (λ q. q ∷ []) (λ q. q ∷ []) (pairNumber n p) (λ a b l. inl (omega (arith, first-less l))) qs s)
+    (pairs-rise n ps qs (r .1) s h) (λ x y i k. go x y (Memᴰ·of-map (pairNumber n p) qs i) (pairsOf-out n ps qs k))
   where
-    go : (x y : ℕ) → (q : ℕ) × (q among qs) × (pair n p q ≡ x)
-        → (a : ℕ) × (b : ℕ) × (a among ps) × (b among qs) × (pair n a b ≡ y) → Less (x ∷ []) (y ∷ [])
+    go : (x y : ℕ) → (q : ℕ) × (q among qs) × (pairNumber n p q ≡ x)
+        → (a : ℕ) × (b : ℕ) × (a among ps) × (b among qs) × (pairNumber n a b ≡ y) → Less (x ∷ []) (y ∷ [])
     go x y q a =
         let l = mul-le-mul-right n (first-less (r .0 (a .0) (a .2))) in
         let k = h (q .0) (q .1) in
@@ -62,9 +63,9 @@ good-pairs m n ps qs f g = record { rise = pairs-rise n ps qs (f .rise) (g .rise
 not-less : {m n : ℕ} → (n < m → ⊥) → m ≤ n
 not-less f = omega arith
 
-module _ {L : Limits} (A B : Table) (goodA : Good L A) (goodB : Good L B) where
+module _ {L : Limits} (A B : Table) (goodA : GoodTable L A) (goodB : GoodTable L B) where
   number-fits : (x : Mark) → x among marks A B
-      → (1 ≤ number (marks A B) x) × (number (marks A B) x ≤ length (marks A B))
+      → (1 ≤ markNumber (marks A B) x) × (markNumber (marks A B) x ≤ length (marks A B))
   number-fits x m = let h = rank-below markKey (marks A B) x m in (omega arith, omega arith)
 
   marker-fits : (k : Class) (m : ℕ) (s t : List ℕ) → s among startsOf (marks A B) k m
@@ -99,7 +100,7 @@ module _ {L : Limits} (A B : Table) (goodA : Good L A) (goodB : Good L B) where
       subst (GoodRow L (joined A B)) (sym (x .1)) row
 
   -- what the joiner writes keeps all the rules of a rule file
-  pub joined-good : large L A (joined A B) ≡ false → Good L (joined A B)
+  pub joined-good : large L A (joined A B) ≡ false → GoodTable L (joined A B)
   joined-good e =
       record {
         states = (mul-pos (goodA .states .0) (goodB .states .0), not-less (λ h. fits (inr (inl h))));
@@ -109,7 +110,7 @@ module _ {L : Limits} (A B : Table) (goodA : Good L A) (goodB : Good L B) where
         symbols = goodA .symbols;
         starting = good-pairs (A .states) (B .states) (A .starting) (B .starting) (goodA .starting) (goodB .starting);
         some = (
-          pair (B .states) (goodA .some .0) (goodB .some .0),
+          pairNumber (B .states) (goodA .some .0) (goodB .some .0),
           pairsOf-in (B .states) (goodA .some .1) (goodB .some .1),
         );
         final = good-pairs (A .states) (B .states) (A .final) (B .final) (goodA .final) (goodB .final);
@@ -122,7 +123,7 @@ module _ {L : Limits} (A B : Table) (goodA : Good L A) (goodB : Good L B) where
       fits x = true≢false (sym (large-exact L A B .0 x) ∙ e)
 
   -- where joining is taken, the joined table is good, and demand 3 holds of it
-  pub join-good : (room : ℕ) → joinNumber L room A B ≡ 0 → Good L (joined A B) × Nests (B .class) A
+  pub join-good : (room : ℕ) → joinNumber L room A B ≡ 0 → GoodTable L (joined A B) × Nests (B .class) A
   join-good room e =
       let f = fails (joinTests L room A B) refl e in
       (joined-good (f .1 .0), nests-exact (B .class) A .1 (not-false _ (f .0)))

@@ -12,34 +12,35 @@ use Rattle.words.specs.Lists.{_among_, each, only, upTo}
 use Rattle.words.specs.Order.{Rises}
 use Rattle.words.proofs.Lists.{each-in, each-out, only-in, only-out, upTo-in, upTo-out}
 use Rattle.words.proofs.Arranged.{arranged-in, arranged-out, arranged-rises, rank-one}
-use Rattle.meaning.specs.Table.{Class, call, return, is, Row, Table, rowKey, Limits, Good}
+use Rattle.meaning.specs.Table.{Class, call, return, is, Row, Table, rowKey, Limits, GoodTable}
 use Rattle.meaning.specs.Runs.{Config, config, Steps}
-use Rattle.meaning.specs.Joining.{readings, pair, pairsOf, Mark, mark, markKey, pushed, marks, number, startsOf}
+use Rattle.meaning.specs.Joining.{readings, pairNumber, pairsOf, Mark, mark, markKey, pushed, marks, markNumber}
+use Rattle.meaning.specs.Joining.{startsOf}
 use Rattle.meaning.specs.Joining.{leaves, joinedRow, rowsFrom, rowsOf, joined}
 use Rattle.meaning.proofs.Shift.{is-in, is-out}
 use Rattle.meaning.proofs.Reading.{endings-out, run-inside}
 
 -- pairs of states
 
-pub pair-one : (n p q r s : ℕ) → q < n → s < n → pair n p q ≡ pair n r s → (p ≡ r) × (q ≡ s)
+pub pair-one : (n p q r s : ℕ) → q < n → s < n → pairNumber n p q ≡ pairNumber n r s → (p ≡ r) × (q ≡ s)
 pair-one n p q r s h k e =
     let a : q ≡ s = cc (mul-add-mod-self-right p n q, mul-add-mod-self-right r n s, mod-eq-of-lt h, mod-eq-of-lt k) in
     let z : 0 < n = omega arith in
     let f : (p * n + q) / n ≡ (r * n + s) / n = ap (λ (x : ℕ). x / n) e in
     (omega (arith, mul-add-div-right z p q, mul-add-div-right z r s, div-eq-of-lt h, div-eq-of-lt k), a)
 
-pub pairsOf-in : (n : ℕ) {ps qs : List ℕ} {p q : ℕ} → p among ps → q among qs → pair n p q among pairsOf n ps qs
-pairsOf-in n {ps} {qs} {p} m k = each-in (λ p. map (pair n p) qs) ps m (Memᴰ·map (pair n p) k)
+pub pairsOf-in : (n : ℕ) {ps qs : List ℕ} {p q : ℕ} → p among ps → q among qs → pairNumber n p q among pairsOf n ps qs
+pairsOf-in n {ps} {qs} {p} m k = each-in (λ p. map (pairNumber n p) qs) ps m (Memᴰ·map (pairNumber n p) k)
 
 pub pairsOf-out : (n : ℕ) (ps qs : List ℕ) {x : ℕ} → x among pairsOf n ps qs
-    → (p : ℕ) × (q : ℕ) × (p among ps) × (q among qs) × (pair n p q ≡ x)
+    → (p : ℕ) × (q : ℕ) × (p among ps) × (q among qs) × (pairNumber n p q ≡ x)
 pairsOf-out n ps qs m =
-    let x = each-out (λ p. map (pair n p) qs) ps m in
-    let y = Memᴰ·of-map (pair n (x .0)) qs (x .2) in
+    let x = each-out (λ p. map (pairNumber n p) qs) ps m in
+    let y = Memᴰ·of-map (pairNumber n (x .0)) qs (x .2) in
     (x .0, y .0, x .1, y .1, y .2)
 
 pub pairsOf-parts : (n : ℕ) (ps qs : List ℕ) (p q : ℕ) → ((s : ℕ) → s among qs → s < n) → q < n
-    → pair n p q among pairsOf n ps qs → (p among ps) × (q among qs)
+    → pairNumber n p q among pairsOf n ps qs → (p among ps) × (q among qs)
 pairsOf-parts n ps qs p q below h m =
     let x = pairsOf-out n ps qs m in
     let e = pair-one n (x .0) (x .1) p q (below (x .1) (x .3)) h (x .4) in
@@ -78,7 +79,7 @@ rowKey-one r s e =
     λ i. record { symbol = a i; from = b i; to = d i; marker = c i; word = f i }
 
 module _ (L : List Mark) where
-  pub number-one : (x y : Mark) → x among L → y among L → number L x ≡ number L y → x ≡ y
+  pub number-one : (x y : Mark) → x among L → y among L → markNumber L x ≡ markNumber L y → x ≡ y
   number-one x y m n e = rank-one markKey markKey-one L x y m n (omega arith)
 
   -- a return row's word is read from the lists of the marks that have its marker
@@ -144,7 +145,7 @@ module _ (A B : Table) where
   pub steps : (j : Joins) → (ρ : List Row) × Steps B (config (j .at) (j .start) []) (j .by .word) ρ (j .end)
   steps j = endings-out B (j .by .word) (config (j .at) (j .start) []) (j .end) (j .reading)
 
-  pub end-inside : {L : Limits} → Good L B → (j : Joins) → j .end .state < B .states
+  pub end-inside : {L : Limits} → GoodTable L B → (j : Joins) → j .end .state < B .states
   end-inside good j = run-inside B good (steps j .1) (j .inside)
 
   -- the joined markers are those that a joined call row pushes

@@ -15,9 +15,9 @@ use Rattle.words.specs.Words.{Word}
 use Rattle.words.proofs.Lists.{both, split, each-append, choices-in, choices-out, choices-map, distinct-map}
 use Rattle.words.proofs.Lists.{distinct-choices}
 use Rattle.words.proofs.Order.{rises-distinct}
-use Rattle.meaning.specs.Table.{Class, unused, call, return, internal, Row, Table, rowKey, Limits, Good}
+use Rattle.meaning.specs.Table.{Class, unused, call, return, internal, Row, Table, rowKey, Limits, GoodTable}
 use Rattle.meaning.specs.Runs.{Config, config, shifted, Takes, Move, Steps, stop, next, said, fresh, Run}
-use Rattle.meaning.specs.Trails.{Trail, ground, over, top, stackOf, seat, carry, trailFrom, trail}
+use Rattle.meaning.specs.Trails.{Trail, ground, over, top, stackOf, withTop, carry, trailFrom, trail}
 use Rattle.meaning.specs.Living.{Place, place, fits, can, goes, moved, begun, living}
 use Rattle.meaning.specs.Answers.{startingStates}
 use Rattle.meaning.proofs.Reading.{run-said}
@@ -54,7 +54,7 @@ carry-top call r t e = (refl, List·Memᴰ·head refl)
 carry-top return r (ground q) e = absurd (false≢true e)
 carry-top return r (over q m t) e = (top-seat (r .to) t, go (eqb m (r .marker)) e)
   where
-    go : (b : Bool) → not (isEmpty (only b (stackOf t))) ≡ true → stackOf (seat (r .to) t) among only b (stackOf t)
+    go : (b : Bool) → not (isEmpty (only b (stackOf t))) ≡ true → stackOf (withTop (r .to) t) among only b (stackOf t)
     go true f = List·Memᴰ·head (stackOf-seat (r .to) t)
     go false f = absurd (false≢true f)
 carry-top internal r t e = (top-seat (r .to) t, List·Memᴰ·head (stackOf-seat (r .to) t))
@@ -210,7 +210,7 @@ traces-from T d X (a ∷ u) e =
     let g = snoc-one (x .rows) (v .rows) r s (ap (λ (t : Trace). t .rows) f) in
     (λ i. trace (f i .start) (g .0 i), g .1)))
 
-pub traces-distinct : {L : Limits} {T : Table} → Good L T → (u : Word) → Distinct (traces T u)
+pub traces-distinct : {L : Limits} {T : Table} → GoodTable L T → (u : Word) → Distinct (traces T u)
 traces-distinct {T = T} g u =
     traces-from T (rises-distinct rowKey (T .rows) (g .rise)) (sprung T) u
     (distinct-map (λ q. trace q []) (T .starting) (rises-distinct (λ q. q ∷ []) (T .starting) (g .starting .rise))

@@ -12,10 +12,10 @@ use borrow.Author.Tests.{eqb-true, eq-eqb}
 use Rattle.words.specs.Lists.{_among_, each}
 use Rattle.words.specs.Words.{Word}
 use Rattle.words.proofs.Lists.{each-in, each-out}
-use Rattle.meaning.specs.Table.{Class, unused, call, return, internal, Row, Table, Limits, Good}
+use Rattle.meaning.specs.Table.{Class, unused, call, return, internal, Row, Table, Limits, GoodTable}
 use Rattle.meaning.specs.Runs.{Config, config, Shifts, shifted, Takes, Move, Steps, stop, next, said}
 use Rattle.meaning.specs.Nesting.{after, level}
-use Rattle.meaning.specs.Joining.{taken, endings}
+use Rattle.meaning.specs.Joining.{afterRow, endings}
 use Rattle.meaning.proofs.Shift.{shifted-in, shifted-out}
 
 -- a list under a condition
@@ -30,7 +30,7 @@ module _ (k : Class) (r : Row) (c : Config) where
   abbrev by : List ℕ → Config
   by s = config (r .to) s (c .output ++ r .word)
 
-  taken-out : (d : Config) → d among taken k r c → Takes k r c d
+  taken-out : (d : Config) → d among afterRow k r c → Takes k r c d
   taken-out d m =
       let x = cond-out (eqb (c .state) (r .from)) (map by (shifted k (r .marker) (c .stack))) m in
       let y = Memᴰ·of-map by (shifted k (r .marker) (c .stack)) (x .1) in
@@ -44,7 +44,7 @@ module _ (k : Class) (r : Row) (c : Config) where
         writes = ap (λ (d : Config). d .output) e;
       }
 
-  taken-in : (d : Config) → Takes k r c d → d among taken k r c
+  taken-in : (d : Config) → Takes k r c d → d among afterRow k r c
   taken-in d t =
       cond-in (eq-eqb (c .state) (r .from) (t .from))
       (Memᴰ·cast
@@ -53,7 +53,7 @@ module _ (k : Class) (r : Row) (c : Config) where
 
 module _ (T : Table) where
   abbrev stepped : ℕ → Config → Row → List Config
-  stepped a c r = cond (eqb (r .symbol) a) (taken (T .class a) r c) []
+  stepped a c r = cond (eqb (r .symbol) a) (afterRow (T .class a) r c) []
 
   pub endings-in : {v : Word} {ρ : List Row} {c e : Config} → Steps T c v ρ e → e among endings T v c
   endings-in stop = List·Memᴰ·head refl
@@ -69,7 +69,7 @@ module _ (T : Table) where
       let x = each-out (λ r. each (endings T v) (stepped a c r)) (T .rows) m in
       let r : Row = x .0 in
       let y = each-out (endings T v) (stepped a c r) (x .2) in
-      let z = cond-out (eqb (r .symbol) a) (taken (T .class a) r c) (y .1) in
+      let z = cond-out (eqb (r .symbol) a) (afterRow (T .class a) r c) (y .1) in
       let m : Move T a r c (y .0) =
       record {
         row = x .1;
@@ -119,7 +119,7 @@ module _ (T : Table) where
   run-rows (next m s) r (List·Memᴰ·head e) = rw e (m .row)
   run-rows (next m s) r (List·Memᴰ·tail i) = run-rows s r i
 
-  pub run-inside : {L : Limits} → Good L T → {c e : Config} {u : Word} {ρ : List Row} → Steps T c u ρ e
+  pub run-inside : {L : Limits} → GoodTable L T → {c e : Config} {u : Word} {ρ : List Row} → Steps T c u ρ e
       → c .state < T .states → e .state < T .states
   run-inside g stop h = h
   run-inside g (next {r = r} m s) h = run-inside g s (rw (m .takes .to) (g .row r (m .row) .to))

@@ -8,10 +8,10 @@ use native.Mathlib.Omega.{arith}
 use lib.ListN.{length}
 use Rattle.words.specs.Lists.{_among_, isEmpty}
 use Rattle.words.specs.Words.{Word}
-use Rattle.meaning.specs.Table.{Class, unused, call, return, internal, Row, Table, Limits, Good}
+use Rattle.meaning.specs.Table.{Class, unused, call, return, internal, Row, Table, Limits, GoodTable}
 use Rattle.meaning.specs.Runs.{Config, config, Shifts, Takes, Move, Steps}
 use Rattle.meaning.specs.Nesting.{Nests, level}
-use Rattle.meaning.specs.Joining.{pair, Mark, mark, marks, startsOf, leaves, joined}
+use Rattle.meaning.specs.Joining.{pairNumber, Mark, mark, marks, startsOf, leaves, joined}
 use Rattle.meaning.proofs.Nesting.{nested-level, pairs-level}
 use Rattle.meaning.proofs.Reading.{endings-in, run-level}
 use Rattle.meaning.proofs.Frames.{framed, run-framed, run-unframed, Closes}
@@ -44,7 +44,7 @@ module _ {A B : Table} (S : Stage A B) where
   inSecond = config (S .second) (lefts (S .cut)) (S .output)
 
   abbrev pub inJoined : Config
-  inJoined = config (pair (B .states) (S .first) (S .second)) (numbers (marks A B) (S .cut)) (S .output)
+  inJoined = config (pairNumber (B .states) (S .first) (S .second)) (numbers (marks A B) (S .cut)) (S .output)
 
   -- a joined row that can be taken, and the cut that follows
   pub record Advance : Type 0 where
@@ -57,7 +57,7 @@ module _ {A B : Table} (S : Stage A B) where
         Turn (marks A B) (A .class (row .by .symbol)) (row .by .marker) (row .start) (row .end .stack) under (S .cut)
         cut
 
-module _ {L : Limits} {A B : Table} (good : Good L B) where
+module _ {L : Limits} {A B : Table} (good : GoodTable L B) where
   pub onward : (S : Stage A B) → Advance S → Stage A B
   onward S v =
       record {
@@ -88,7 +88,7 @@ module _ {L : Limits} {A B : Table} (good : Good L B) where
           reads = refl;
           takes =
               record {
-                from = λ i. pair (B .states) (v .first i) (v .second i);
+                from = λ i. pairNumber (B .states) (v .first i) (v .second i);
                 to = refl;
                 shifts = v .turn .joined;
                 writes = refl;
@@ -159,7 +159,7 @@ module _ (A B : Table) (nests : Nests (B .class) A) where
       }
 
   -- from the two to the joined table: what the first writes nests, so the second never pops what was there before
-  pub back : {L : Limits} (good : Good L B) (S : Stage A B) {a : ℕ} {x : Row} {ρ : List Row} {c b : Config}
+  pub back : {L : Limits} (good : GoodTable L B) (S : Stage A B) {a : ℕ} {x : Row} {ρ : List Row} {c b : Config}
       → Move A a x (inFirst S) c → ((m : ℕ) → m among c .stack → Closes A m) → Steps B (inSecond S) (x .word) ρ b
       → (v : Advance S) × (v .row .by .symbol ≡ a) × (c ≡ inFirst (onward good S v)) × (b ≡ inSecond (onward good S v))
   unfolding onward

@@ -11,10 +11,10 @@ use borrow.Author.Tests.{ne-eqb}
 use Rattle.words.specs.Lists.{_among_, Exact}
 use Rattle.words.specs.Words.{Word}
 use Rattle.words.proofs.Lists.{first-of}
-use Rattle.meaning.specs.Table.{Class, unused, call, return, is, Table, Limits, Good}
+use Rattle.meaning.specs.Table.{Class, unused, call, return, is, Table, Limits, GoodTable}
 use Rattle.meaning.specs.Runs.{depth}
 use Rattle.meaning.specs.Living.{Place, moved, living}
-use Rattle.meaning.specs.Answers.{Moment, sending, sends, follows, step, stepTests, stepNumber, Taken}
+use Rattle.meaning.specs.Answers.{Moment, sending, sends, follows, step, stepTests, stepNumber, AllTaken}
 use Rattle.meaning.specs.Sentences.{First, Agreed, NoRoom, stepSentences}
 use Rattle.words.proofs.Exact.{exact-as, eqb-exact, ltb-exact, and-exact}
 use Rattle.meaning.proofs.Tests.{is-exact, Match, first-exact}
@@ -23,7 +23,7 @@ use Rattle.meaning.proofs.Stands.{agreed, agreed-one, none-exact, crowd
 use Rattle.meaning.proofs.Holds.{Holds, holds-depth, moved-runs, holds}
 
 -- demand 2: what was sent is the longest common beginning of the outputs of all runs
-pub sent-agreed : {L : Limits} {T : Table} → Good L T → {u z : Word} {m : Moment} → Taken T u z m → Agreed T u z
+pub sent-agreed : {L : Limits} {T : Table} → GoodTable L T → {u z : Word} {m : Moment} → AllTaken T u z m → Agreed T u z
 sent-agreed g t = holds g t .agreed
 
 -- a class at a depth

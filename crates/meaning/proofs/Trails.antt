@@ -11,7 +11,7 @@ use Rattle.words.specs.Lists.{_among_}
 use Rattle.words.specs.Words.{Word}
 use Rattle.meaning.specs.Table.{Class, unused, call, return, internal, Row, Table}
 use Rattle.meaning.specs.Runs.{Config, Takes, Steps, stop, next, fresh, Run}
-use Rattle.meaning.specs.Trails.{Trail, ground, over, Pair, top, height, stackOf, seat, carry, trailFrom}
+use Rattle.meaning.specs.Trails.{Trail, ground, over, Pair, top, height, stackOf, withTop, carry, trailFrom}
 use Rattle.meaning.specs.Trails.{trailKey, trail}
 
 -- a configuration stands at the top of a trail
@@ -19,11 +19,11 @@ pub record At (c : Config) (t : Trail) : Type 0 where
   pub state : c .state ≡ top t .state
   pub stack : c .stack ≡ stackOf t
 
-pub stackOf-seat : (q : ℕ) (t : Trail) → stackOf (seat q t) ≡ stackOf t
+pub stackOf-seat : (q : ℕ) (t : Trail) → stackOf (withTop q t) ≡ stackOf t
 stackOf-seat q (ground p) = refl
 stackOf-seat q (over p m t) = refl
 
-pub top-seat : (q : ℕ) (t : Trail) → top (seat q t) .state ≡ q
+pub top-seat : (q : ℕ) (t : Trail) → top (withTop q t) .state ≡ q
 top-seat q (ground p) = refl
 top-seat q (over p m t) = refl
 

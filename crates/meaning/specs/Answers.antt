@@ -94,10 +94,10 @@ abbrev pub step : Table → ℕ → Moment → ℕ → ℕ × Word × Moment
 step T room m a = let n = stepNumber T room m a in cond (eqb n 0) (n, sends T m a, follows T m a) (n, [], m)
 
 -- a message all taken, symbol by symbol from a fresh session: what was sent, and what the session then stands for
-pub data Taken (T : Table) : Word → Word → Moment → Type 0 where
-  none : Taken T [] [] (opened T)
-  more : {u z : Word} {m : Moment} (a room : ℕ) → Taken T u z m → stepNumber T room m a ≡ 0
-      → Taken T (u ++ a ∷ []) (z ++ sends T m a) (follows T m a)
+pub data AllTaken (T : Table) : Word → Word → Moment → Type 0 where
+  none : AllTaken T [] [] (opened T)
+  more : {u z : Word} {m : Moment} (a room : ℕ) → AllTaken T u z m → stepNumber T room m a ≡ 0
+      → AllTaken T (u ++ a ∷ []) (z ++ sends T m a) (follows T m a)
 
 -- "It accepts when its state is final and its stack empty"
 abbrev pub accepts : Table → Trail → Bool

@@ -14,8 +14,8 @@ use Rattle.meaning.specs.Answers.{first}
 use Rattle.meaning.specs.Nesting.{nests}
 
 -- what one row makes of a configuration, one ending or none
-abbrev pub taken : Class → Row → Config → List Config
-taken k r c =
+abbrev pub afterRow : Class → Row → Config → List Config
+afterRow k r c =
     cond (eqb (c .state) (r .from))
     (map (λ s. config (r .to) s (c .output ++ r .word)) (shifted k (r .marker) (c .stack)))
     []
@@ -23,19 +23,19 @@ taken k r c =
 -- "the second table reads the word …, branching": the endings of all readings of a word from a configuration
 abbrev pub endings : Table → Word → Config → List Config
 endings T [] c = c ∷ []
-endings T (a ∷ v) c = each (λ r. each (endings T v) (cond (eqb (r .symbol) a) (taken (T .class a) r c) [])) (T .rows)
+endings T (a ∷ v) c = each (λ r. each (endings T v) (cond (eqb (r .symbol) a) (afterRow (T .class a) r c) [])) (T .rows)
 
 -- the endings of the second's readings of a row's word, from a state and a stack
 abbrev pub readings : Table → Row → ℕ → List ℕ → List Config
 readings B x q s = endings B (x .word) (config q s [])
 
 -- "State (p, q) has number p times the second's state count plus q"
-abbrev pub pair : ℕ → ℕ → ℕ → ℕ
-pair n p q = p * n + q
+abbrev pub pairNumber : ℕ → ℕ → ℕ → ℕ
+pairNumber n p q = p * n + q
 
 -- "it starts or is final when both are"
 abbrev pub pairsOf : ℕ → List ℕ → List ℕ → List ℕ
-pairsOf n ps qs = each (λ p. map (pair n p) qs) ps
+pairsOf n ps qs = each (λ p. map (pairNumber n p) qs) ps
 
 -- "the first's marker with the markers left on that stack", its top first
 pub record Mark : Type 0 where
@@ -60,8 +60,8 @@ abbrev pub marks : Table → Table → List Mark
 marks A B = arranged markKey (each (λ x. each (pushed A B x) (upTo (B .states))) (A .rows))
 
 -- "numbered from 1"
-abbrev pub number : List Mark → Mark → ℕ
-number L y = suc (rank markKey L y)
+abbrev pub markNumber : List Mark → Mark → ℕ
+markNumber L y = suc (rank markKey L y)
 
 -- from which stacks a row's word is read: "from an empty stack of its own"; "A return row's reading starts from the
 -- list in the popped marker"
@@ -82,8 +82,8 @@ leaves internal s = isEmpty s
 -- and left `t`; a return row pops the marker it started from
 abbrev pub markerOf : List Mark → Class → ℕ → List ℕ → List ℕ → ℕ
 markerOf L unused m s t = 0
-markerOf L call m s t = number L (mark m t)
-markerOf L return m s t = number L (mark m s)
+markerOf L call m s t = markNumber L (mark m t)
+markerOf L return m s t = markNumber L (mark m s)
 markerOf L internal m s t = 0
 
 -- "each ending gives a row"; "The row's word is what the second wrote"
@@ -91,8 +91,8 @@ abbrev pub joinedRow : Table → List Mark → Class → Row → ℕ → List �
 joinedRow B L k x q s e =
     record {
       symbol = x .symbol;
-      from = pair (B .states) (x .from) q;
-      to = pair (B .states) (x .to) (e .state);
+      from = pairNumber (B .states) (x .from) q;
+      to = pairNumber (B .states) (x .to) (e .state);
       marker = markerOf L k (x .marker) s (e .stack);
       word = e .output;
     }
@@ -150,7 +150,7 @@ abbrev pub joinNumber : Limits → ℕ → Table → Table → ℕ
 joinNumber L room A B = first (joinTests L room A B)
 
 -- demand 3: what the second allows on some output of the first
-pub record After (A B : Table) (u w : Word) : Type 0 where
+pub record Through (A B : Table) (u w : Word) : Type 0 where
   pub between : Word
   pub first : Allowed A u between
   pub second : Allowed B between w

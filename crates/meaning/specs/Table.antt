@@ -87,7 +87,7 @@ pub record GoodRow (L : Limits) (T : Table) (r : Row) : Type 0 where
   pub short : length (r .word) ≤ L .word
 
 -- the rules of "The rule file", of the table that a file stands for
-pub record Good (L : Limits) (T : Table) : Type 0 where
+pub record GoodTable (L : Limits) (T : Table) : Type 0 where
   pub states : (1 ≤ T .states) × (T .states ≤ L .states)
   pub markers : T .markers ≤ L .markers
   pub depthCap : (1 ≤ T .depthCap) × (T .depthCap ≤ L .depth)

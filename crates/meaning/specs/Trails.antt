@@ -43,21 +43,21 @@ abbrev pub trailKey : Trail → Word
 trailKey t = each (λ p. p .state ∷ p .marker ∷ []) (pairs t)
 
 -- an internal row: the trail with another present state
-abbrev pub seat : ℕ → Trail → Trail
-seat q (ground p) = ground q
-seat q (over p m t) = over q m t
+abbrev pub withTop : ℕ → Trail → Trail
+withTop q (ground p) = ground q
+withTop q (over p m t) = over q m t
 
 -- a return row: the trail under it, with another present state
 abbrev pub fall : ℕ → Trail → Trail
 fall q (ground p) = ground q
-fall q (over p m t) = seat q t
+fall q (over p m t) = withTop q t
 
 -- what a row of each class makes of a trail; `trail-right` says that this gives the pairs that document 01 words
 abbrev pub carry : Class → Row → Trail → Trail
 carry unused r t = t
 carry call r t = over (r .to) (r .marker) t
 carry return r t = fall (r .to) t
-carry internal r t = seat (r .to) t
+carry internal r t = withTop (r .to) t
 
 -- what rows one after the other make of a trail
 abbrev pub trailFrom : Table → Trail → List Row → Trail

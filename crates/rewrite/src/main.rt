@@ -1,13 +1,13 @@
 // The program: a table length, a table and symbols on standard input; on standard output a line for each symbol that is
 // tried, the first refused one's the last, and then finish's. Where a read or a write fails, standard error says so and
 // nothing more is printed: the end of the input alone is the end of a message.
-use engine::WORK;
-use lines::Tried;
-use lines::put_end;
-use lines::put_no_table;
-use lines::put_symbol;
 use numbers::is_taken;
-use places::SIZE;
+use rewrite_lines::Tried;
+use rewrite_lines::put_end;
+use rewrite_lines::put_no_table;
+use rewrite_lines::put_symbol;
+use session_bytes::SIZE;
+use step::WORK;
 ghost use Prim.Native.Nat.{_+_, _^_, _≤_, _<_};
 ghost use lib.ListN.{length};
 

@@ -22,16 +22,16 @@ use Rattle.meaning.specs.Living.{place, living}
 use Rattle.meaning.specs.Answers.{linksCap, Moment, opened}
 use Rattle.meaning.proofs.Living.{Reaches, living-exact, begun-count as living-count}
 use Rattle.table.specs.File.{tableOf}
-use Rattle.table.specs.Good.{first, Good}
+use Rattle.table.specs.Good.{firstEdition, GoodFile}
 use Rattle.table.specs.Calls.{Judged}
 use Rattle.table.proofs.Told.{judged-good, judged-faulty, judged-unique}
 use Rattle.table.proofs.Stands.{starting-of}
-use Rattle.standing.specs.Sessions.{Entry, Sound, trails, stands, starts, started, beginning}
-use Rattle.standing.specs.Bytes.{pieceRoom, sessionOf, linkBytes, bytesOf, SoundBytes}
-use Rattle.session.specs.Calls.{Begins, Begun}
-use Rattle.standing.proofs.Beginning.{beginning-sound, beginning-stands}
-use Rattle.standing.proofs.Encoded.{Fits, small-zeros, session-back, kept-of}
-use Rattle.standing.proofs.RoundTrip.{bytes-one}
+use Rattle.session_meaning.specs.Sessions.{Entry, Sound, trails, stands, starts, started, beginning}
+use Rattle.session_meaning.specs.Bytes.{pieceRoom, sessionOf, linkBytes, bytesOf, SoundBytes}
+use Rattle.session.specs.Calls.{BeginsSession, Begun}
+use Rattle.session_meaning.proofs.Beginning.{beginning-sound, beginning-stands}
+use Rattle.session_meaning.proofs.Encoded.{Fits, small-zeros, session-back, kept-of}
+use Rattle.session_meaning.proofs.RoundTrip.{bytes-one}
 
 -- links at level 0 fit, where their states are bytes
 started-fits : (l : List ℕ) → length l ≤ linksCap → ((q : ℕ) → q among l → q < 256) → Fits (started l)
@@ -51,7 +51,7 @@ started-fits l room small =
     all P h e m = let x = Memᴰ·of-map starts l m in subst P (x .2) (h (x .0) (x .1))
 
 -- of a good file
-module _ (file : List ℕ) (good : Good first file) where
+module _ (file : List ℕ) (good : GoodFile firstEdition file) where
   abbrev T : Table
   T = tableOf file
 
@@ -78,7 +78,7 @@ module _ (file : List ℕ) (good : Good first file) where
   beginning-is = ap stands decoded-beginning ∙ beginning-stands T
 
   begins-taken : {n : ℕ} {l session session′ : List ℕ} → l ≡ T .starting → session′ ≡ bytesOf (started l)
-      → n ≡ length l → Begins file session 0 n session′
+      → n ≡ length l → BeginsSession file session 0 n session′
   begins-taken {session′ = session′} e f m =
       let is : session′ ≡ bytesOf (beginning T) = f ∙ ap (λ (l : List ℕ). bytesOf (started l)) e in
       record {
@@ -96,7 +96,7 @@ module _ (file : List ℕ) (good : Good first file) where
 
 -- what `check` refuses, begin refuses with the same answer
 pub begins-bad : {file session : List ℕ} {number states : ℕ} → Judged file number → states ≡ 0 → (number ≡ 0 → ⊥)
-    → Begins file session number states session
+    → BeginsSession file session number states session
 begins-bad j e f =
     record {
       judged = j;
@@ -108,8 +108,8 @@ begins-bad j e f =
     }
 
 -- two numbers, counts and sessions that meet the promise on one file and session are the same; so are two answers
-pub begins-unique : {file session : List ℕ} {m n s t : ℕ} {x y : List ℕ} → Begins file session m s x
-    → Begins file session n t y → (m ≡ n) × (s ≡ t) × (x ≡ y)
+pub begins-unique : {file session : List ℕ} {m n s t : ℕ} {x y : List ℕ} → BeginsSession file session m s x
+    → BeginsSession file session n t y → (m ≡ n) × (s ≡ t) × (x ≡ y)
 begins-unique {file} {session} {m} {n} {s} {t} {x} {y} a b = go (eqb m 0) refl
   where
     same : m ≡ n
@@ -136,7 +136,7 @@ begun-unique file session r q session′ session″ a b =
     (answer-same (u .0) (u .1), u .2)
 
 -- begin reports at most 64 starting states
-pub begun-few : {file session session′ : List ℕ} {number states : ℕ} → Begins file session number states session′
+pub begun-few : {file session session′ : List ℕ} {number states : ℕ} → BeginsSession file session number states session′
     → states ≤ linksCap
 begun-few {file} {number = number} {states} b = go (eqb number 0) refl
   where
@@ -145,7 +145,7 @@ begun-few {file} {number = number} {states} b = go (eqb number 0) refl
     go false e = omega (arith, b .none (b .judged .bad .1 (judged-faulty (b .judged) (eqb-false number 0 e))))
 
 -- in words of runs: what waits in the session are the runs over the empty message, each trail with the output it has
-pub begun-runs : {file session session′ : List ℕ} {number states : ℕ} → Begins file session number states session′
+pub begun-runs : {file session session′ : List ℕ} {number states : ℕ} → BeginsSession file session number states session′
     → number ≡ 0 → (t : Trail) (o : Word)
     → (place t o among trails (sessionOf session′)) ↔ Reaches (tableOf file) [] t o
 begun-runs {file} {session′ = session′} b z t o =
@@ -153,7 +153,7 @@ begun-runs {file} {session′ = session′} b z t o =
     rw is (living-exact (tableOf file) [] t o)
 
 -- and there are as many as begin reports
-pub begun-count : {file session session′ : List ℕ} {number states : ℕ} → Begins file session number states session′
+pub begun-count : {file session session′ : List ℕ} {number states : ℕ} → BeginsSession file session number states session′
     → number ≡ 0 → states ≡ length (trails (sessionOf session′))
 begun-count {file} b z =
     b .counted z ∙ living-count (tableOf file) ∙ sym (ap (λ (m : Moment). length (m .waiting)) (b .stands z))

@@ -10,18 +10,19 @@ use Rattle.words.proofs.Lists.{map-same, getD-byte, upTo-out}
 use Rattle.words.specs.LittleEndian.{byte}
 use Rattle.meaning.specs.Table.{Table}
 use Rattle.table.specs.File.{tableOf}
-use Rattle.table.specs.Good.{first, Good}
-use Rattle.standing.specs.Soundly.{weight}
-use Rattle.standing.specs.Bytes.{linkStart, size, countOf, linkAt, entryAt, sessionOf}
-use Rattle.standing.specs.Numbers.{Lent, keyAt, Links, startOf, levelOf, Graded, Levelled, Common, Weighable, weightAt}
-use Rattle.standing.specs.Numbers.{weights}
-use Rattle.standing.proofs.Bytes.{long}
-use Rattle.standing.proofs.Passed.{Heads}
-use Rattle.standing.proofs.ByPlace.{all-rise}
+use Rattle.table.specs.Good.{firstEdition, GoodFile}
+use Rattle.session_meaning.specs.Soundly.{weight}
+use Rattle.session_meaning.specs.Bytes.{linkStart, size, linkCount, linkAt, entryAt, sessionOf}
+use Rattle.session_meaning.specs.Numbers.{Lent, keyAt, Links, startOf, levelOf, Graded, Levelled, Common, Weighable}
+use Rattle.session_meaning.specs.Numbers.{weightAt}
+use Rattle.session_meaning.specs.Numbers.{weights}
+use Rattle.session_meaning.proofs.Bytes.{long}
+use Rattle.session_meaning.proofs.Passed.{Heads}
+use Rattle.session_meaning.proofs.ByPlace.{all-rise}
 use Rattle.links.proofs.Levelled.{foot-after, foot-before}
 
 module _ {T : Table} {bytes : List ℕ} (links : Links T bytes) where
-  pub graded : Lent bytes → countOf bytes ≤ 64 → byte bytes 0 ≤ 32 → Graded bytes
+  pub graded : Lent bytes → linkCount bytes ≤ 64 → byte bytes 0 ≤ 32 → Graded bytes
   graded lent few deep =
       record {
         whole = omega (arith, lent .whole);
@@ -32,9 +33,9 @@ module _ {T : Table} {bytes : List ℕ} (links : Links T bytes) where
       }
     where
       -- levels rise as links do
-      rises : (i j : ℕ) → i < j → j < countOf bytes → linkAt bytes i .level ≤ linkAt bytes j .level
+      rises : (i j : ℕ) → i < j → j < linkCount bytes → linkAt bytes i .level ≤ linkAt bytes j .level
       rises i j lt l =
-          let k = all-rise (keyAt bytes) (countOf bytes) (links .rise) i j lt l in
+          let k = all-rise (keyAt bytes) (linkCount bytes) (links .rise) i j lt l in
           let s = getD-byte bytes (lent .small) (linkStart j + 1) in
           let m = getD-byte bytes (lent .small) (linkStart j + 2) in
           let t = getD-byte bytes (lent .small) (linkStart j + 3) in
@@ -46,12 +47,12 @@ module _ {T : Table} {bytes : List ℕ} (links : Links T bytes) where
       record { short = λ i l. omega (arith, links .fit i l .short); plain = λ i l. links .fit i l .ranges .zero .1 }
 
   -- a session's entries have the lengths of its head
-  pub entries-weights : length bytes ≡ size → countOf bytes ≤ 64 → map weight (sessionOf bytes .entries) ≡ weights bytes
+  pub entries-weights : length bytes ≡ size → linkCount bytes ≤ 64 → map weight (sessionOf bytes .entries) ≡ weights bytes
   entries-weights whole few =
-      map-map weight (entryAt bytes) (upTo (countOf bytes))
-      ∙ map-same (λ i. weight (entryAt bytes i)) (weightAt bytes) (upTo (countOf bytes))
+      map-map weight (entryAt bytes) (upTo (linkCount bytes))
+      ∙ map-same (λ i. weight (entryAt bytes i)) (weightAt bytes) (upTo (linkCount bytes))
       (λ i m.
-      let l = upTo-out (countOf bytes) i m in
+      let l = upTo-out (linkCount bytes) i m in
       let e = long bytes whole few i l (links .fit i l .short) in
       λ k. record { link = linkAt bytes i; bytes = e k })
 
@@ -69,6 +70,6 @@ module _ {bytes starts : List ℕ} (v : Levelled bytes starts) (foot : ℕ) wher
   heads-ended {first} {n} h le = (first, λ k l f. h .all k (omega (arith, foot-before v foot k l f)) f)
 
 -- no table of the first edition goes deeper than 32
-pub shallow : {file : List ℕ} → Good first file → tableOf file .depthCap ≤ 32
+pub shallow : {file : List ℕ} → GoodFile firstEdition file → tableOf file .depthCap ≤ 32
 unfolding tableOf
 shallow g = g .head .depthCap .1

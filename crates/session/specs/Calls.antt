@@ -7,11 +7,11 @@ use Rattle.numbers.specs.declared.Answer.{Answer}
 use Rattle.meaning.specs.Answers.{opened, startingStates}
 use Rattle.table.specs.File.{tableOf}
 use Rattle.table.specs.Calls.{Judged}
-use Rattle.standing.specs.Sessions.{stands}
-use Rattle.standing.specs.Bytes.{sessionOf, SoundBytes}
+use Rattle.session_meaning.specs.Sessions.{stands}
+use Rattle.session_meaning.specs.Bytes.{sessionOf, SoundBytes}
 
 -- "Check and begin: 1 (a begin refused by any number reports 0 starting states and leaves the session it was handed)"
-pub record Begins (file session : List ℕ) (number states : ℕ) (session′ : List ℕ) : Type 0 where
+pub record BeginsSession (file session : List ℕ) (number states : ℕ) (session′ : List ℕ) : Type 0 where
   pub judged : Judged file number
   pub counted : number ≡ 0 → states ≡ startingStates (tableOf file)
   pub none : number ≡ 1 → states ≡ 0
@@ -21,4 +21,4 @@ pub record Begins (file session : List ℕ) (number states : ℕ) (session′ : 
 
 -- what an answer says, its count the starting states, and what it leaves
 abbrev pub Begun : List ℕ → List ℕ → Answer → List ℕ → Type 0
-Begun file session r session′ = Begins file session (numberOf (r .number)) (r .count) session′
+Begun file session r session′ = BeginsSession file session (numberOf (r .number)) (r .count) session′

@@ -1,2 +1,2 @@
--- What the call `begin` promises, in words of `standing`.
+-- What the call `begin` promises, in words of `session_meaning`.
 pub mod Calls

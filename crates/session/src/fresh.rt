@@ -2,19 +2,19 @@
 use numbers::Answer;
 use numbers::is_taken;
 use numbers::taken;
-use places::SIZE;
-use places::clear;
+use session_bytes::SIZE;
+use session_bytes::clear;
 ghost use mathlib.Core.Path.{_≡_};
 ghost use Rattle.sets.specs.Sets.{members};
-ghost use Rattle.standing.specs.Sessions.{started};
-ghost use Rattle.standing.specs.Bytes.{bytesOf};
+ghost use Rattle.session_meaning.specs.Sessions.{started};
+ghost use Rattle.session_meaning.specs.Bytes.{bytesOf};
 ghost use Rattle.session.specs.Calls.{Begun};
 
 // Makes a fresh session for a good table, and says how many starting states there are.
 pub fn begin(file: &[u8], session: &mut [u8; SIZE]) -> Answer
     ensures { λ r. ⌜ Begun (now (file .entry)) (now (session .entry)) r (now (session .exit)) ⌝ }
 {
-    let checked = checking::check(file);
+    let checked = table_check::check(file);
     if !is_taken(checked) {
         return checked;
     }

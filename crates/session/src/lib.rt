@@ -7,21 +7,21 @@ pub use fresh::begin;
 use links::levels;
 use links::levels::LEVELS;
 use links::weigh;
-use places::SIZE;
+use session_bytes::SIZE;
 ghost use mathlib.Core.Path.{_≡_};
 ghost use Prim.Native.Nat.{_≤_};
 ghost use lib.ListN.{length};
 ghost use Rattle.words.specs.Lists.{Exact};
 ghost use Rattle.words.specs.LittleEndian.{byte};
 ghost use Rattle.table.specs.File.{tableOf};
-ghost use Rattle.table.specs.Good.{first, Good};
-ghost use Rattle.standing.specs.Bytes.{size, countOf, SoundBytes};
-ghost use Rattle.standing.specs.Numbers.{Lent, Links, Levelled, Rests};
+ghost use Rattle.table.specs.Good.{firstEdition, GoodFile};
+ghost use Rattle.session_meaning.specs.Bytes.{size, linkCount, SoundBytes};
+ghost use Rattle.session_meaning.specs.Numbers.{Lent, Links, Levelled, Rests};
 
 // Whether a session is sound for the table of a good file. The links are looked at before what rests on them, and the
 // places not used last: they are the most to look at.
 pub fn sound(file: &[u8], session: &[u8; SIZE]) -> bool
-    requires { ⌜ Good first (now file) ⌝ }
+    requires { ⌜ GoodFile firstEdition (now file) ⌝ }
     ensures { λ r. ⌜ Exact (SoundBytes (tableOf (now (file .entry))) (now (session .entry))) r ⌝ }
 {
     let all = &session[..];
@@ -43,7 +43,7 @@ pub fn sound(file: &[u8], session: &[u8; SIZE]) -> bool
 
 // And links that fit and rise: where each level stands is found, so that each search looks at one level.
 fn on_links(file: &[u8], session: &[u8]) -> bool
-    requires { ⌜ (Good first (now file)) × (countOf (now session) ≤ 64) × (byte (now session) 0 ≤ 32) ⌝ }
+    requires { ⌜ (GoodFile firstEdition (now file)) × (linkCount (now session) ≤ 64) × (byte (now session) 0 ≤ 32) ⌝ }
     requires { ⌜ Lent (now session) × Links (tableOf (now file)) (now session) ⌝ }
     ensures { λ r. ⌜ Exact (Rests (tableOf (now (file .entry))) (now (session .entry))) r ⌝ }
 {
@@ -54,7 +54,7 @@ fn on_links(file: &[u8], session: &[u8]) -> bool
 
 // The rules that rest on such links.
 fn rests(file: &[u8], session: &[u8], starts: &[u8; LEVELS]) -> bool
-    requires { ⌜ (Good first (now file)) × (length (now session) ≡ size) ⌝ }
+    requires { ⌜ (GoodFile firstEdition (now file)) × (length (now session) ≡ size) ⌝ }
     requires { ⌜ Links (tableOf (now file)) (now session) × Levelled (now session) (now starts) ⌝ }
     ensures { λ r. ⌜ Exact (Rests (tableOf (now (file .entry))) (now (session .entry))) r ⌝ }
 {
@@ -64,5 +64,5 @@ fn rests(file: &[u8], session: &[u8], starts: &[u8; LEVELS]) -> bool
     if table::waiting_cap(file) < weigh::longest(session, starts) {
         return false;
     }
-    places::unused(session)
+    session_bytes::unused(session)
 }

@@ -9,10 +9,10 @@ ghost use Prim.Native.Nat.{_≤_, _<_};
 ghost use lib.ListN.{length};
 ghost use Rattle.words.specs.Lists.{Exact};
 ghost use Rattle.table.specs.File.{tableOf};
-ghost use Rattle.table.specs.Good.{first, Good};
-ghost use Rattle.standing.specs.Bytes.{size, countOf};
-ghost use Rattle.standing.specs.Numbers.{LinkFits, Links, RootedAt, Agrees, Common, CarriesAt, Grouped};
-ghost use Rattle.standing.specs.Numbers.{headSize, levelOf, Levelled};
+ghost use Rattle.table.specs.Good.{firstEdition, GoodFile};
+ghost use Rattle.session_meaning.specs.Bytes.{size, linkCount};
+ghost use Rattle.session_meaning.specs.Numbers.{LinkFits, Links, RootedAt, Agrees, Common, CarriesAt, Grouped};
+ghost use Rattle.session_meaning.specs.Numbers.{headSize, levelOf, Levelled};
 
 // "marker 0 exactly at level 0"
 fn mark_fits(level: usize, marker: usize) -> bool
@@ -26,7 +26,7 @@ fn mark_fits(level: usize, marker: usize) -> bool
 
 // Whether a link keeps the rules that look at no other.
 fn link_fits(file: &[u8], session: &[u8], i: usize) -> bool
-    requires { ⌜ (Good first (now file)) × (headSize ≤ length (now session)) × (i < 64) ⌝ }
+    requires { ⌜ (GoodFile firstEdition (now file)) × (headSize ≤ length (now session)) × (i < 64) ⌝ }
     ensures { λ r. ⌜ Exact (LinkFits (tableOf (now (file .entry))) (now (session .entry)) i) r ⌝ }
 {
     let level = links::level(session, i);
@@ -54,7 +54,7 @@ fn link_fits(file: &[u8], session: &[u8], i: usize) -> bool
 
 // Whether all links do, and rise: each number is at least one more than that of the link before it.
 pub fn links(file: &[u8], session: &[u8]) -> bool
-    requires { ⌜ (Good first (now file)) × (headSize ≤ length (now session)) × (countOf (now session) ≤ 64) ⌝ }
+    requires { ⌜ (GoodFile firstEdition (now file)) × (headSize ≤ length (now session)) × (linkCount (now session) ≤ 64) ⌝ }
     ensures { λ r. ⌜ Exact (Links (tableOf (now (file .entry))) (now (session .entry))) r ⌝ }
 {
     let n = links::count(session);
@@ -76,7 +76,7 @@ pub fn links(file: &[u8], session: &[u8]) -> bool
 
 // Whether a link is at level 0 or stands on one that is there, which is of the level before its own.
 fn rooted(session: &[u8], starts: &[u8; LEVELS], i: usize) -> bool
-    requires { ⌜ Levelled (now session) (now starts) × (i < countOf (now session)) ⌝ }
+    requires { ⌜ Levelled (now session) (now starts) × (i < linkCount (now session)) ⌝ }
     ensures { λ r. ⌜ Exact (RootedAt (now (session .entry)) i) r ⌝ }
 {
     let foot = links::foot(session, i);
@@ -110,7 +110,7 @@ fn apart(session: &[u8], starts: &[u8; LEVELS], foot: usize) -> bool
     let mut j = start(starts, level);
     while j < end {
         if links::foot(session, j) == foot {
-            let head = places::head(session, j);
+            let head = session_bytes::head(session, j);
             if !agrees(first, head) {
                 return true;
             }
@@ -124,7 +124,7 @@ fn apart(session: &[u8], starts: &[u8; LEVELS], foot: usize) -> bool
 // Whether a link is at the depth, or those that stand on it have no common first byte, and there are some.
 fn carries(session: &[u8], starts: &[u8; LEVELS], i: usize) -> bool
     requires { ⌜ (length (now session) ≡ size) × Levelled (now session) (now starts) ⌝ }
-    requires { ⌜ i < countOf (now session) ⌝ }
+    requires { ⌜ i < linkCount (now session) ⌝ }
     ensures { λ r. ⌜ Exact (CarriesAt (now (session .entry)) i) r ⌝ }
 {
     if links::level(session, i) == links::depth(session) {

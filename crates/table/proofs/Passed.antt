@@ -5,7 +5,7 @@ use Prim.Native.Nat.{ℕ, _+_, _<_, _≤_}
 use native.Mathlib.Omega.{arith}
 use borrow.Author.Count.{below-more}
 use Rattle.table.specs.File.{rowCount, rowAt}
-use Rattle.table.specs.Good.{Edition, Contents, RowFits, Rising, Rows, Good}
+use Rattle.table.specs.Good.{Edition, Contents, RowFits, Rising, Rows, GoodFile}
 use Rattle.table.specs.Calls.{RowIn, WordIn, Headed}
 
 -- rows stand in the file, and so do the words of those that fit
@@ -16,7 +16,7 @@ pub word-in : {E : Edition} (file : List ℕ) (i : ℕ) → Contents E file → 
     → WordIn file i
 word-in file i c l r = record { row = row-in file i c l; word = let f = c .fill in let w = r .word in omega arith }
 
-pub good-word : {E : Edition} (file : List ℕ) (i : ℕ) → Good E file → i < rowCount file → WordIn file i
+pub good-word : {E : Edition} (file : List ℕ) (i : ℕ) → GoodFile E file → i < rowCount file → WordIn file i
 good-word file i g l = word-in file i (g .contents) l (g .rows .fit i l)
 
 -- row `i` and those before it fit and rise, and the last has this head

@@ -17,10 +17,10 @@ use Rattle.words.proofs.Lists.{upTo-out, length-upTo, getD-byte}
 use Rattle.words.proofs.Order.{less-trans, rises-append}
 use Rattle.words.specs.LittleEndian.{byte, two, eight}
 use Rattle.meaning.specs.Parts.{classCount, startingStart, finalStart}
-use Rattle.meaning.specs.Table.{rowKey, Row, GoodSet, GoodRow, Good as GoodTable}
+use Rattle.meaning.specs.Table.{rowKey, Row, GoodSet, GoodRow, GoodTable}
 use Rattle.sets.specs.Sets.{members}
 use Rattle.table.specs.File.{rowCount, rowStart, wordsStart, rowAt, tableOf}
-use Rattle.table.specs.Good.{Edition, first, Good, Rows}
+use Rattle.table.specs.Good.{Edition, firstEdition, GoodFile, Rows}
 use Rattle.sets.proofs.Members.{members-rise, members-below, members-some}
 
 -- what stands in a part of a list stands in it
@@ -73,7 +73,7 @@ good-set : (n s : ℕ) → s < 2 ^ n → GoodSet n (members s)
 good-set n s h = record { rise = members-rise s; below = members-below n s h }
 
 -- of an edition whose words may have up to 255 bytes, as many as a row's length byte can say
-module _ {E : Edition} (wide : 255 ≤ E .limits .word) (file : List ℕ) (bytes : Bytes file) (g : Good E file) where
+module _ {E : Edition} (wide : 255 ≤ E .limits .word) (file : List ℕ) (bytes : Bytes file) (g : GoodFile E file) where
   good-row : (i : ℕ) → i < rowCount file → GoodRow (E .limits) (tableOf file) (rowAt file i)
   unfolding tableOf
   good-row i l =
@@ -114,7 +114,7 @@ unfolding tableOf
 rows-of file = refl
 
 -- its starting states: there are at most 64 states, so that nothing is asked of the file's bytes
-pub starting-of : (file : List ℕ) → Good first file
+pub starting-of : (file : List ℕ) → GoodFile firstEdition file
     → GoodSet (tableOf file .states) (tableOf file .starting)
     × ((q : ℕ) × (q among tableOf file .starting))
     × (tableOf file .states ≤ 64)

@@ -11,7 +11,7 @@ use Rattle.words.specs.Order.{Less}
 use Rattle.meaning.specs.Table.{Row, rowKey}
 use Rattle.table.specs.File.{rowCount, rowAt}
 use Rattle.table.specs.Good.{Rows}
-use Rattle.table.specs.Calls.{Before, FirstRow, RowsFrom}
+use Rattle.table.specs.Calls.{RowBefore, FirstRow, RowsFrom}
 use Rattle.table.specs.declared.read.Rows.{Rows as Part}
 
 first-up : {x y : ℕ} {Q : Type 0} → (x < y) ⊎ ((x ≡ y) × Q) → x ≤ y
@@ -22,8 +22,8 @@ first-up (inr h) = let e = h .0 in omega arith
 pub record Between (file : List ℕ) (a q low high : ℕ) : Type 0 where
   pub ordered : low ≤ high
   pub within : high ≤ rowCount file
-  pub before : (k : ℕ) → k < low → Before (rowAt file k) a q
-  pub onward : (k : ℕ) → high ≤ k → k < rowCount file → Before (rowAt file k) a q → ⊥
+  pub before : (k : ℕ) → k < low → RowBefore (rowAt file k) a q
+  pub onward : (k : ℕ) → high ≤ k → k < rowCount file → RowBefore (rowAt file k) a q → ⊥
 
 pub between-all : (file : List ℕ) (a q : ℕ) → Between file a q 0 (rowCount file)
 between-all file a q =
@@ -35,7 +35,7 @@ between-all file a q =
     }
 
 -- a row stands before all that a higher one stands before
-less-before : {x y : Row} {a q : ℕ} → Less (rowKey x) (rowKey y) → Before y a q → Before x a q
+less-before : {x y : Row} {a q : ℕ} → Less (rowKey x) (rowKey y) → RowBefore y a q → RowBefore x a q
 less-before (inl h) b =
     let s = b .symbols in
     record { symbols = omega arith; froms = λ e. absurd (omega arith) }
@@ -46,22 +46,22 @@ less-before (inr h) b =
     record { symbols = omega arith; froms = λ f. let l = b .froms (omega arith) in omega arith }
 
 module _ (file : List ℕ) (rows : Rows file) where
-  before-up : {a q : ℕ} (m k : ℕ) → k ≤ m → m < rowCount file → Before (rowAt file m) a q
-      → Before (rowAt file k) a q
+  before-up : {a q : ℕ} (m k : ℕ) → k ≤ m → m < rowCount file → RowBefore (rowAt file m) a q
+      → RowBefore (rowAt file k) a q
   before-up zero k h l b = let e : k ≡ 0 = omega arith in rw e b
   before-up {a} {q} (suc m) k h l b = go (eq-zero-or-pos (suc m - k)) (before-up m k)
     where
-      next : Before (rowAt file m) a q
+      next : RowBefore (rowAt file m) a q
       next = less-before (rw add-one at (rows .rise m (omega arith) .less)) b
 
       go : (suc m - k ≡ 0) ⊎ (0 < suc m - k)
-          → (k ≤ m → m < rowCount file → Before (rowAt file m) a q → Before (rowAt file k) a q)
-          → Before (rowAt file k) a q
+          → (k ≤ m → m < rowCount file → RowBefore (rowAt file m) a q → RowBefore (rowAt file k) a q)
+          → RowBefore (rowAt file k) a q
       go (inl e) ih = let f : k ≡ suc m = omega arith in rw f b
       go (inr p) ih = ih (omega arith) (omega arith) next
 
   module _ {a q low high : ℕ} (b : Between file a q low high) (m : ℕ) (l : low ≤ m) (h : m < high) where
-    pub between-up : Before (rowAt file m) a q → Between file a q (m + 1) high
+    pub between-up : RowBefore (rowAt file m) a q → Between file a q (m + 1) high
     between-up s =
         record {
           ordered = omega arith;
@@ -70,7 +70,7 @@ module _ (file : List ℕ) (rows : Rows file) where
           onward = b .onward;
         }
 
-    pub between-down : (Before (rowAt file m) a q → ⊥) → Between file a q low m
+    pub between-down : (RowBefore (rowAt file m) a q → ⊥) → Between file a q low m
     between-down s =
         record {
           ordered = l;
@@ -82,7 +82,7 @@ module _ (file : List ℕ) (rows : Rows file) where
   -- the search for where the rows from the next state would stand goes up from the first: all passed stand before
   -- these, and one that is not of the symbol from the state does not
   pub stops : {a q n r : ℕ} → FirstRow file a q n → n ≤ r → r < rowCount file
-      → ((k : ℕ) → k < r → Before (rowAt file k) a (q + 1))
+      → ((k : ℕ) → k < r → RowBefore (rowAt file k) a (q + 1))
       → (rowAt file r .symbol ≡ a → rowAt file r .from ≡ q → ⊥) → FirstRow file a (q + 1) r
   stops {a} {q} {n} {r} f l m passed other =
       record {
@@ -99,7 +99,7 @@ module _ (file : List ℕ) (rows : Rows file) where
       → (rowAt file r .symbol ≡ a → rowAt file r .from ≡ q → ⊥)
       → (k : ℕ) → r ≤ k → k < rowCount file → rowAt file k .symbol ≡ a → rowAt file k .from ≡ q → ⊥
   none-behind {a} {q} {n} {r} f l m other k u w s t =
-      let b : Before (rowAt file r) a (q + 1) =
+      let b : RowBefore (rowAt file r) a (q + 1) =
       before-up k r u w (record { symbols = omega arith; froms = λ e. omega arith }) in
       f .onward r l m
       (record { symbols = b .symbols; froms = λ e. let d = other e in let h = b .froms e in omega arith })
@@ -119,10 +119,10 @@ pub none-before : {file : List ℕ} {a q n : ℕ} → FirstRow file a q n → (k
 none-before f k l s t = let b = f .before k l .froms s in omega arith
 
 -- what stands before those of a state stands before those of the next, and so do those of the state
-pub before-next : {x : Row} {a q : ℕ} → Before x a q → Before x a (q + 1)
+pub before-next : {x : Row} {a q : ℕ} → RowBefore x a q → RowBefore x a (q + 1)
 before-next b = record { symbols = b .symbols; froms = λ e. let h = b .froms e in omega arith }
 
-pub has-before : {x : Row} {a q : ℕ} → x .symbol ≡ a → x .from ≡ q → Before x a (q + 1)
+pub has-before : {x : Row} {a q : ℕ} → x .symbol ≡ a → x .from ≡ q → RowBefore x a (q + 1)
 has-before s t = record { symbols = omega arith; froms = λ e. omega arith }
 
 -- the rows of a symbol from a state are those of their part, and no others

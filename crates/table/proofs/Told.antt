@@ -12,21 +12,21 @@ use Rattle.numbers.specs.Numbers.{numberOf}
 use Rattle.numbers.specs.declared.Answer.{Answer}
 use Rattle.numbers.proofs.Told.{answer-same}
 use Rattle.meaning.specs.Table.{Class as Kind, unused, call, return, internal}
-use Rattle.table.specs.Good.{first, Good}
+use Rattle.table.specs.Good.{firstEdition, GoodFile}
 use Rattle.table.specs.Calls.{Judged, Checked, meant, FirstRow, RowsFrom}
 use Rattle.table.specs.declared.read.Class.{Class}
 use Rattle.table.specs.declared.read.Class.the-variants.{Unused, Call, Return, Internal}
 use Rattle.table.specs.declared.read.Rows.{Rows}
 
 -- a file is judged by whether it is good,
-pub judged-good : {file : List ℕ} → Good first file → Judged file 0
+pub judged-good : {file : List ℕ} → GoodFile firstEdition file → Judged file 0
 judged-good g = record { good = (λ e. g, λ h. refl); bad = (λ e. absurd (omega arith), λ f. absurd (f g)) }
 
-pub judged-bad : {file : List ℕ} → (Good first file → ⊥) → Judged file 1
+pub judged-bad : {file : List ℕ} → (GoodFile firstEdition file → ⊥) → Judged file 1
 judged-bad f = record { good = (λ e. absurd (omega arith), λ g. absurd (f g)); bad = (λ e. f, λ h. refl) }
 
 -- and is not where its number is not 0
-pub judged-faulty : {file : List ℕ} {n : ℕ} → Judged file n → (n ≡ 0 → ⊥) → Good first file → ⊥
+pub judged-faulty : {file : List ℕ} {n : ℕ} → Judged file n → (n ≡ 0 → ⊥) → GoodFile firstEdition file → ⊥
 judged-faulty j f g = f (j .good .1 g)
 
 -- two numbers that meet the promise of `check` on one file are the same; so are two answers
@@ -36,7 +36,7 @@ judged-unique {file} {m} {n} a b = go (eqb m 0) refl
     go : (t : Bool) → eqb m 0 ≡ t → m ≡ n
     go true e = let z = eqb-true m 0 e in z ∙ sym (b .good .1 (a .good .0 z))
     go false e =
-        let bad : Good first file → ⊥ = λ g. eqb-false m 0 e (a .good .1 g) in
+        let bad : GoodFile firstEdition file → ⊥ = λ g. eqb-false m 0 e (a .good .1 g) in
         a .bad .1 bad ∙ sym (b .bad .1 bad)
 
 pub checked-unique : (file : List ℕ) (r q : Answer) → Checked file r → Checked file q → r ≡ q

@@ -10,15 +10,15 @@ use Rattle.numbers.specs.declared.Answer.{Answer}
 use Rattle.meaning.specs.Parts.{rowSize}
 use Rattle.meaning.specs.Table.{Class as Kind, unused, call, return, internal, Row}
 use Rattle.table.specs.File.{rowCount, rowStart, wordsStart, rowAt}
-use Rattle.table.specs.Good.{first, Good}
+use Rattle.table.specs.Good.{firstEdition, GoodFile}
 use Rattle.table.specs.declared.read.Class.{Class}
 use Rattle.table.specs.declared.read.Class.the-variants.{Unused, Call, Return, Internal}
 use Rattle.table.specs.declared.read.Rows.{Rows}
 
 -- 1 BadTable: "the file breaks a rule above"; "Check and begin: 1"
 pub record Judged (file : List ℕ) (number : ℕ) : Type 0 where
-  pub good : (number ≡ 0) ↔ Good first file
-  pub bad : (number ≡ 1) ↔ (Good first file → ⊥)
+  pub good : (number ≡ 0) ↔ GoodFile firstEdition file
+  pub bad : (number ≡ 1) ↔ (GoodFile firstEdition file → ⊥)
 
 -- "Check and begin: 1": what an answer of `check` says; it writes nothing
 abbrev pub Checked : List ℕ → Answer → Type 0
@@ -32,15 +32,15 @@ meant Return = return
 meant Internal = internal
 
 -- "Rows rise strictly by symbol, from, …": a row that stands before those of a symbol from a state
-pub record Before (x : Row) (symbol from : ℕ) : Type 0 where
+pub record RowBefore (x : Row) (symbol from : ℕ) : Type 0 where
   pub symbols : x .symbol ≤ symbol
   pub froms : x .symbol ≡ symbol → x .from < from
 
 -- exactly the rows below `r` stand before those of a symbol from a state
 pub record FirstRow (file : List ℕ) (symbol from r : ℕ) : Type 0 where
   pub within : r ≤ rowCount file
-  pub before : (k : ℕ) → k < r → Before (rowAt file k) symbol from
-  pub onward : (k : ℕ) → r ≤ k → k < rowCount file → Before (rowAt file k) symbol from → ⊥
+  pub before : (k : ℕ) → k < r → RowBefore (rowAt file k) symbol from
+  pub onward : (k : ℕ) → r ≤ k → k < rowCount file → RowBefore (rowAt file k) symbol from → ⊥
 
 -- the rows of a symbol from a state: from the first of them on, up to where those from the next state would stand
 pub record RowsFrom (file : List ℕ) (symbol from : ℕ) (r : Rows) : Type 0 where

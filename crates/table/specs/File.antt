@@ -44,7 +44,7 @@ rowAt file i =
       word = wordOf file i;
     }
 
--- "Each symbol 0 to 255 has a class": the class of a symbol stands at its place among the classes
+-- "Each symbol 0 to 255 has a class": the classes stand from byte 28
 abbrev pub classAt : List ℕ → ℕ → Class
 classAt file a = cond (ltb a classCount) (classOf (byte file (classesStart + a))) unused
 

@@ -16,8 +16,8 @@ pub record Edition : Type 0 where
   pub limits : Limits
 
 -- "edition, 1"
-abbrev pub first : Edition
-first = record { number = 1; limits = edition1 }
+abbrev pub firstEdition : Edition
+firstEdition = record { number = 1; limits = edition1 }
 
 -- bytes 0 to 7: "edition, 1 … states, 1 to 64 … markers, 0 to 64 … depth cap, 1 to 32 … waiting cap, 0 to 512 … length
 -- of the whole file"
@@ -31,19 +31,19 @@ pub record Head (E : Edition) (file : List ℕ) : Type 0 where
   pub whole : two file 6 ≡ length file
 
 -- "five entries, each start (2) and length (2)"
-pub record Entry (file : List ℕ) (at start size : ℕ) : Type 0 where
+pub record FileEntry (file : List ℕ) (at start size : ℕ) : Type 0 where
   pub starts : two file at ≡ start
   pub lasts : two file (at + 2) ≡ size
 
 -- "Bodies stand in this order from byte 28 with no gap and fill the file"
 pub record Contents (E : Edition) (file : List ℕ) : Type 0 where
   pub long : classesStart ≤ length file
-  pub classes : Entry file classesEntry classesStart classCount
-  pub starting : Entry file startingEntry startingStart setSize
-  pub final : Entry file finalEntry finalStart setSize
-  pub rows : Entry file rowsEntry rowsStart (rowSize * rowCount file)
+  pub classes : FileEntry file classesEntry classesStart classCount
+  pub starting : FileEntry file startingEntry startingStart setSize
+  pub final : FileEntry file finalEntry finalStart setSize
+  pub rows : FileEntry file rowsEntry rowsStart (rowSize * rowCount file)
   pub count : rowCount file ≤ E .limits .rows
-  pub words : Entry file wordsEntry (wordsStart file) (wordsLength file)
+  pub words : FileEntry file wordsEntry (wordsStart file) (wordsLength file)
   pub bytes : wordsLength file ≤ E .limits .words
   pub fill : wordsStart file + wordsLength file ≡ length file
 
@@ -80,7 +80,7 @@ pub record Rows (file : List ℕ) : Type 0 where
   pub rise : (i : ℕ) → i + 1 < rowCount file → Rising file i
 
 -- "the file breaks a rule above": it breaks none, part by part in file order
-pub record Good (E : Edition) (file : List ℕ) : Type 0 where
+pub record GoodFile (E : Edition) (file : List ℕ) : Type 0 where
   pub head : Head E file
   pub contents : Contents E file
   pub classes : Classes file

@@ -13,46 +13,46 @@ ghost use Prim.Native.Nat.{_<_};
 ghost use Rattle.words.specs.Lists.{Exact};
 ghost use Rattle.table.specs.File.{rowCount, rowAt, wordOf, tableOf};
 ghost use Rattle.sets.specs.Sets.{members};
-ghost use Rattle.table.specs.Good.{first, Good};
-ghost use Rattle.table.specs.Calls.{meant, WordIn, Before, FirstRow, RowsFrom};
+ghost use Rattle.table.specs.Good.{firstEdition, GoodFile};
+ghost use Rattle.table.specs.Calls.{meant, WordIn, RowBefore, FirstRow, RowsFrom};
 
 pub fn states(file: &[u8]) -> usize
-    requires { ⌜ Good first (now file) ⌝ }
+    requires { ⌜ GoodFile firstEdition (now file) ⌝ }
     ensures { λ r. ⌜ r ≡ tableOf (now (file .entry)) .states ⌝ }
 {
     wide(file[1])
 }
 
 pub fn markers(file: &[u8]) -> usize
-    requires { ⌜ Good first (now file) ⌝ }
+    requires { ⌜ GoodFile firstEdition (now file) ⌝ }
     ensures { λ r. ⌜ r ≡ tableOf (now (file .entry)) .markers ⌝ }
 {
     wide(file[2])
 }
 
 pub fn depth_cap(file: &[u8]) -> usize
-    requires { ⌜ Good first (now file) ⌝ }
+    requires { ⌜ GoodFile firstEdition (now file) ⌝ }
     ensures { λ r. ⌜ r ≡ tableOf (now (file .entry)) .depthCap ⌝ }
 {
     wide(file[3])
 }
 
 pub fn waiting_cap(file: &[u8]) -> usize
-    requires { ⌜ Good first (now file) ⌝ }
+    requires { ⌜ GoodFile firstEdition (now file) ⌝ }
     ensures { λ r. ⌜ r ≡ tableOf (now (file .entry)) .waitingCap ⌝ }
 {
     load_two(file, 4)
 }
 
 pub fn starting_set(file: &[u8]) -> u64
-    requires { ⌜ Good first (now file) ⌝ }
+    requires { ⌜ GoodFile firstEdition (now file) ⌝ }
     ensures { λ r. ⌜ members r ≡ tableOf (now (file .entry)) .starting ⌝ }
 {
     load_eight(file, STARTING_START)
 }
 
 pub fn final_set(file: &[u8]) -> u64
-    requires { ⌜ Good first (now file) ⌝ }
+    requires { ⌜ GoodFile firstEdition (now file) ⌝ }
     ensures { λ r. ⌜ members r ≡ tableOf (now (file .entry)) .final ⌝ }
 {
     load_eight(file, FINAL_START)
@@ -66,7 +66,7 @@ pub enum Class {
 }
 
 pub fn class_of(file: &[u8], symbol: u8) -> Class
-    requires { ⌜ Good first (now file) ⌝ }
+    requires { ⌜ GoodFile firstEdition (now file) ⌝ }
     ensures { λ r. ⌜ meant r ≡ tableOf (now (file .entry)) .class symbol ⌝ }
 {
     let class = wide(file[CLASSES_START + wide(symbol)]);
@@ -83,14 +83,14 @@ pub fn class_of(file: &[u8], symbol: u8) -> Class
 }
 
 pub fn row_count(file: &[u8]) -> usize
-    requires { ⌜ Good first (now file) ⌝ }
+    requires { ⌜ GoodFile firstEdition (now file) ⌝ }
     ensures { λ r. ⌜ r ≡ rowCount (now (file .entry)) ⌝ }
 {
     load_two(file, ROWS_LENGTH_AT) / ROW_SIZE
 }
 
 pub fn row_symbol(file: &[u8], i: usize) -> usize
-    requires { ⌜ (Good first (now file)) × (i < rowCount (now file)) ⌝ }
+    requires { ⌜ (GoodFile firstEdition (now file)) × (i < rowCount (now file)) ⌝ }
     ensures { λ r. ⌜ r ≡ rowAt (now (file .entry)) i .symbol ⌝ }
 {
     wide(file[ROWS_START + ROW_SIZE * i])
@@ -98,28 +98,28 @@ pub fn row_symbol(file: &[u8], i: usize) -> usize
 
 // The class of a row's symbol.
 pub fn row_class(file: &[u8], i: usize) -> Class
-    requires { ⌜ (Good first (now file)) × (i < rowCount (now file)) ⌝ }
+    requires { ⌜ (GoodFile firstEdition (now file)) × (i < rowCount (now file)) ⌝ }
     ensures { λ r. ⌜ meant r ≡ tableOf (now (file .entry)) .class (rowAt (now (file .entry)) i .symbol) ⌝ }
 {
     class_of(file, file[300 + 8 * i])
 }
 
 pub fn row_from(file: &[u8], i: usize) -> usize
-    requires { ⌜ (Good first (now file)) × (i < rowCount (now file)) ⌝ }
+    requires { ⌜ (GoodFile firstEdition (now file)) × (i < rowCount (now file)) ⌝ }
     ensures { λ r. ⌜ r ≡ rowAt (now (file .entry)) i .from ⌝ }
 {
     wide(file[ROWS_START + ROW_SIZE * i + 1])
 }
 
 pub fn row_to(file: &[u8], i: usize) -> usize
-    requires { ⌜ (Good first (now file)) × (i < rowCount (now file)) ⌝ }
+    requires { ⌜ (GoodFile firstEdition (now file)) × (i < rowCount (now file)) ⌝ }
     ensures { λ r. ⌜ r ≡ rowAt (now (file .entry)) i .to ⌝ }
 {
     wide(file[ROWS_START + ROW_SIZE * i + 2])
 }
 
 pub fn row_marker(file: &[u8], i: usize) -> usize
-    requires { ⌜ (Good first (now file)) × (i < rowCount (now file)) ⌝ }
+    requires { ⌜ (GoodFile firstEdition (now file)) × (i < rowCount (now file)) ⌝ }
     ensures { λ r. ⌜ r ≡ rowAt (now (file .entry)) i .marker ⌝ }
 {
     wide(file[ROWS_START + ROW_SIZE * i + 3])
@@ -139,8 +139,8 @@ pub fn row_word(file: &[u8], i: usize) -> &[u8]
 
 // Whether a row stands before those of a symbol from a state.
 fn row_before(file: &[u8], i: usize, symbol: u8, from: usize) -> bool
-    requires { ⌜ (Good first (now file)) × (i < rowCount (now file)) ⌝ }
-    ensures { λ r. ⌜ Exact (Before (rowAt (now (file .entry)) i) symbol from) r ⌝ }
+    requires { ⌜ (GoodFile firstEdition (now file)) × (i < rowCount (now file)) ⌝ }
+    ensures { λ r. ⌜ Exact (RowBefore (rowAt (now (file .entry)) i) symbol from) r ⌝ }
 {
     let a = row_symbol(file, i);
     if a != wide(symbol) {
@@ -152,7 +152,7 @@ fn row_before(file: &[u8], i: usize, symbol: u8, from: usize) -> bool
 // The place of the first row of a symbol from a state, or where it would stand: rows rise by symbol and then by `from`,
 // so that halving finds it.
 pub fn first_row(file: &[u8], symbol: u8, from: usize) -> usize
-    requires { ⌜ Good first (now file) ⌝ }
+    requires { ⌜ GoodFile firstEdition (now file) ⌝ }
     ensures { λ r. ⌜ FirstRow (now (file .entry)) symbol from r ⌝ }
 {
     let mut low = 0;
@@ -175,7 +175,7 @@ pub struct Rows {
 }
 
 pub fn rows_from(file: &[u8], symbol: u8, from: usize) -> Rows
-    requires { ⌜ Good first (now file) ⌝ }
+    requires { ⌜ GoodFile firstEdition (now file) ⌝ }
     ensures { λ r. ⌜ RowsFrom (now (file .entry)) symbol from r ⌝ }
 {
     let n = row_count(file);

@@ -1,7 +1,7 @@
 -- `links::blank` meets its contract. Assumes nothing.
 use mathlib.Core.Path.{refl}
 use borrow.Author.Needs.{needs}
-use Rattle.standing.proofs.Clear.{clear-exact}
+use Rattle.session_meaning.proofs.Clear.{clear-exact}
 use Rattle.links.proofs.blank.Statement.{statement}
 use Rattle.links.proofs.blank.Tie as tie
 

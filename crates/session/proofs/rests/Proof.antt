@@ -3,8 +3,8 @@ use mathlib.Core.Path.{_≡_, sym, _∙_, ap}
 use native.Mathlib.Omega.{arith}
 use borrow.Author.Needs.{needs}
 use Rattle.words.proofs.Exact.{no-exact, denied, granted}
-use Rattle.standing.specs.Soundly.{longestOf, longest}
-use Rattle.standing.specs.Bytes.{sessionOf}
+use Rattle.session_meaning.specs.Soundly.{longestOf, longest}
+use Rattle.session_meaning.specs.Bytes.{sessionOf}
 use Rattle.session.proofs.Rising.{weighable, entries-weights}
 use Rattle.session.proofs.rests.Statement.{statement}
 use Rattle.session.proofs.rests.Tie as tie

@@ -2,8 +2,8 @@
 use native.Mathlib.Omega.{arith}
 use borrow.Author.Needs.{needs}
 use Rattle.words.proofs.Exact.{denied, granted}
-use Rattle.standing.proofs.ByPlace.{by-place, not-sound}
-use Rattle.standing.specs.Numbers.{Lent}
+use Rattle.session_meaning.proofs.ByPlace.{by-place, not-sound}
+use Rattle.session_meaning.specs.Numbers.{Lent}
 use Rattle.session.proofs.Rising.{shallow}
 use Rattle.session.proofs.sound.Statement.{statement}
 use Rattle.session.proofs.sound.Tie as tie

@@ -3,13 +3,13 @@ use mathlib.Core.Path.{_≡_, ap}
 use Prim.Native.Nat.{ℕ, _+_, _-_, _≤_}
 use native.Mathlib.Omega.{arith}
 use borrow.Author.Needs.{needs}
-use Rattle.standing.specs.Bytes.{countOf}
+use Rattle.session_meaning.specs.Bytes.{linkCount}
 use Rattle.links.proofs.Levelled.{Found, found-start, found-next, found-all}
 use Rattle.links.proofs.levels.find.Statement.{statement}
 use Rattle.links.proofs.levels.find.Tie as tie
 
 abbrev Inv-loop : tie.InvT-loop
-Inv-loop bytes n all₀ i₀ all i = (n ≡ countOf bytes) × (i ≤ n) × Found bytes all i
+Inv-loop bytes n all₀ i₀ all i = (n ≡ linkCount bytes) × (i ≤ n) × Found bytes all i
 
 abbrev μ-loop : tie.MeasureT-loop
 μ-loop bytes n all₀ i₀ all i = n - i

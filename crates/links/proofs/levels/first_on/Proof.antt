@@ -4,8 +4,8 @@ use Prim.Native.Nat.{ℕ, _+_, _-_, _≤_, _<_}
 use native.Mathlib.Omega.{arith}
 use borrow.Author.Count.{below-more}
 use borrow.Author.Needs.{needs}
-use Rattle.standing.specs.Bytes.{countOf}
-use Rattle.standing.specs.Numbers.{footAt, startOf, levelOf}
+use Rattle.session_meaning.specs.Bytes.{linkCount}
+use Rattle.session_meaning.specs.Numbers.{footAt, startOf, levelOf}
 use Rattle.links.proofs.Levelled.{foot-after, foot-before}
 use Rattle.links.proofs.levels.first_on.Statement.{statement}
 use Rattle.links.proofs.levels.first_on.Tie as tie
@@ -13,7 +13,7 @@ use Rattle.links.proofs.levels.first_on.Tie as tie
 abbrev Inv-loop : tie.InvT-loop
 Inv-loop bytes starts below at end i₀ i =
     (end ≤ 64)
-    × (end ≤ countOf bytes)
+    × (end ≤ linkCount bytes)
     × (end ≡ startOf starts (levelOf below + 1))
     × ((k : ℕ) → k < i → footAt bytes k ≡ below → ⊥)
 

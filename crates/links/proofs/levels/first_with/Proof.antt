@@ -4,8 +4,8 @@ use Prim.Native.Nat.{ℕ, _-_, _≤_, _<_}
 use native.Mathlib.Omega.{arith}
 use borrow.Author.Count.{below-more}
 use borrow.Author.Needs.{needs}
-use Rattle.standing.specs.Bytes.{countOf}
-use Rattle.standing.specs.Numbers.{seatAt, startOf, levelOf}
+use Rattle.session_meaning.specs.Bytes.{linkCount}
+use Rattle.session_meaning.specs.Numbers.{seatAt, startOf, levelOf}
 use Rattle.links.proofs.Levelled.{seat-after, seat-before}
 use Rattle.links.proofs.levels.first_with.Statement.{statement}
 use Rattle.links.proofs.levels.first_with.Tie as tie
@@ -13,7 +13,7 @@ use Rattle.links.proofs.levels.first_with.Tie as tie
 abbrev Inv-loop : tie.InvT-loop
 Inv-loop bytes starts above at end i₀ i =
     (end ≤ 64)
-    × (end ≤ countOf bytes)
+    × (end ≤ linkCount bytes)
     × (end ≡ startOf starts (levelOf above))
     × ((k : ℕ) → k < i → seatAt bytes k ≡ above → ⊥)
 

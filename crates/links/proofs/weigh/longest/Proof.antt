@@ -2,15 +2,15 @@
 use Prim.Native.Nat.{_≤_}
 use native.Mathlib.Omega.{arith}
 use borrow.Author.Needs.{needs}
-use Rattle.standing.specs.Bytes.{countOf}
-use Rattle.standing.specs.Numbers.{Weighed}
+use Rattle.session_meaning.specs.Bytes.{linkCount}
+use Rattle.session_meaning.specs.Numbers.{Weighed}
 use Rattle.links.proofs.Weighed.{heaviest-longest, weighed-none, weighed-on}
 use Rattle.links.proofs.Levelled.{heaviest-from}
 use Rattle.links.proofs.weigh.longest.Statement.{statement}
 use Rattle.links.proofs.weigh.longest.Tie as tie
 
 abbrev Inv-loop : tie.InvT-loop
-Inv-loop bytes starts loads₀ i₀ loads i = (i ≤ countOf bytes) × Weighed bytes loads i
+Inv-loop bytes starts loads₀ i₀ loads i = (i ≤ linkCount bytes) × Weighed bytes loads i
 
 abbrev μ-loop : tie.MeasureT-loop
 μ-loop bytes starts loads₀ i₀ loads i = i

@@ -4,8 +4,8 @@ use mathlib.Core.Logic.{⊎-elim}
 use Prim.Native.Nat.{_+_, _-_, _≤_}
 use native.Mathlib.Omega.{arith}
 use borrow.Author.Needs.{needs}
-use Rattle.standing.specs.Bytes.{countOf}
-use Rattle.standing.specs.Numbers.{startOf, levelOf}
+use Rattle.session_meaning.specs.Bytes.{linkCount}
+use Rattle.session_meaning.specs.Numbers.{startOf, levelOf}
 use Rattle.links.proofs.Weighed.{Sought, sought-past, sought-met}
 use Rattle.links.proofs.Levelled.{sought-level, sought-ended}
 use Rattle.links.proofs.weigh.most_on.Statement.{statement}
@@ -14,9 +14,9 @@ use Rattle.links.proofs.weigh.most_on.Tie as tie
 abbrev Inv-loop : tie.InvT-loop
 Inv-loop bytes starts loads below level end most₀ j₀ most j =
     (end ≤ 64)
-    × (end ≤ countOf bytes)
+    × (end ≤ linkCount bytes)
     × (end ≡ startOf starts (levelOf below + 1))
-    × (j ≤ countOf bytes)
+    × (j ≤ linkCount bytes)
     × Sought bytes below (startOf starts (levelOf below)) j most
 
 abbrev μ-loop : tie.MeasureT-loop

@@ -2,7 +2,7 @@
 use mathlib.Core.Path.{_≡_}
 use Prim.Native.Nat.{_+_}
 use native.Mathlib.Omega.{arith}
-use Rattle.standing.specs.Numbers.{loadAt}
+use Rattle.session_meaning.specs.Numbers.{loadAt}
 use Rattle.links.proofs.Weighed.{loads-small, heaviest-load, weighed-on, weighed-next}
 use Rattle.links.proofs.Levelled.{heaviest-from, seat-past, seat-low}
 use Rattle.links.proofs.weigh.weigh.Statement.{statement}

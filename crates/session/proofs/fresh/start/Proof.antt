@@ -3,7 +3,7 @@ use Prim.Native.Nat.{_<_}
 use native.Mathlib.Omega.{arith}
 use borrow.Author.Needs.{needs}
 use Rattle.sets.proofs.Members.{members-le, Turn, turn}
-use Rattle.standing.proofs.Started.{Starting, starting-none, starting-more, starting-all}
+use Rattle.session_meaning.proofs.Started.{Starting, starting-none, starting-more, starting-all}
 use Rattle.session.proofs.fresh.start.Statement.{statement}
 use Rattle.session.proofs.fresh.start.Tie as tie
 

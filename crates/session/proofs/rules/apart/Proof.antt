@@ -6,9 +6,9 @@ use Prim.Native.Nat.{_+_, _-_, _≤_}
 use native.Mathlib.Omega.{arith}
 use borrow.Author.Needs.{needs}
 use Rattle.words.proofs.Exact.{yes-exact, no-exact, denied, granted}
-use Rattle.standing.specs.Bytes.{countOf}
-use Rattle.standing.specs.Numbers.{startOf, levelOf}
-use Rattle.standing.proofs.Passed.{Heads, heads-next, heads-skip, heads-apart}
+use Rattle.session_meaning.specs.Bytes.{linkCount}
+use Rattle.session_meaning.specs.Numbers.{startOf, levelOf}
+use Rattle.session_meaning.proofs.Passed.{Heads, heads-next, heads-skip, heads-apart}
 use Rattle.session.proofs.Rising.{heads-level, heads-ended}
 use Rattle.session.proofs.rules.apart.Statement.{statement}
 use Rattle.session.proofs.rules.apart.Tie as tie
@@ -16,7 +16,7 @@ use Rattle.session.proofs.rules.apart.Tie as tie
 abbrev Inv-loop : tie.InvT-loop
 Inv-loop session starts foot level end first₀ j₀ first j =
     (end ≤ 64)
-    × (end ≤ countOf session)
+    × (end ≤ linkCount session)
     × (end ≡ startOf starts (levelOf foot + 1))
     × Heads session foot first j
 

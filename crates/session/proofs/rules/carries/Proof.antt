@@ -5,7 +5,7 @@ use Prim.Native.Nat.{ℕ}
 use native.Mathlib.Omega.{arith}
 use Rattle.words.specs.Lists.{Exact}
 use Rattle.words.proofs.Exact.{yes-exact}
-use Rattle.standing.specs.Numbers.{Common}
+use Rattle.session_meaning.specs.Numbers.{Common}
 use Rattle.links.proofs.Levelled.{seat-low}
 use Rattle.session.proofs.rules.carries.Statement.{statement}
 use Rattle.session.proofs.rules.carries.Tie as tie

@@ -5,14 +5,14 @@ use native.Mathlib.Omega.{arith}
 use borrow.Author.Count.{below-more}
 use borrow.Author.Needs.{needs}
 use Rattle.words.proofs.Exact.{yes-exact, no-exact, denied, granted}
-use Rattle.standing.specs.Bytes.{countOf}
-use Rattle.standing.specs.Numbers.{RootedAt, CarriesAt}
+use Rattle.session_meaning.specs.Bytes.{linkCount}
+use Rattle.session_meaning.specs.Numbers.{RootedAt, CarriesAt}
 use Rattle.session.proofs.rules.groups.Statement.{statement}
 use Rattle.session.proofs.rules.groups.Tie as tie
 
 abbrev Inv-loop : tie.InvT-loop
 Inv-loop session starts n i₀ i =
-    (n ≡ countOf session) × ((k : ℕ) → k < i → RootedAt session k × CarriesAt session k)
+    (n ≡ linkCount session) × ((k : ℕ) → k < i → RootedAt session k × CarriesAt session k)
 
 abbrev μ-loop : tie.MeasureT-loop
 μ-loop session starts n i₀ i = n - i

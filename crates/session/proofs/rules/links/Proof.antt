@@ -5,13 +5,13 @@ use native.Mathlib.Omega.{arith}
 use borrow.Author.Needs.{needs}
 use Rattle.words.proofs.Exact.{yes-exact, no-exact, denied, granted}
 use Rattle.table.specs.File.{tableOf}
-use Rattle.standing.specs.Bytes.{countOf}
-use Rattle.standing.proofs.Passed.{Risen, risen-start, risen-next, risen-not, risen-all}
+use Rattle.session_meaning.specs.Bytes.{linkCount}
+use Rattle.session_meaning.proofs.Passed.{Risen, risen-start, risen-next, risen-not, risen-all}
 use Rattle.session.proofs.rules.links.Statement.{statement}
 use Rattle.session.proofs.rules.links.Tie as tie
 
 abbrev Inv-loop : tie.InvT-loop
-Inv-loop file session n least₀ i₀ least i = (n ≡ countOf session) × Risen (tableOf file) session i least
+Inv-loop file session n least₀ i₀ least i = (n ≡ linkCount session) × Risen (tableOf file) session i least
 
 abbrev μ-loop : tie.MeasureT-loop
 μ-loop file session n least₀ i₀ least i = n - i

@@ -4,7 +4,7 @@ use mathlib.Core.Logic.{inl, inr, ⊎-elim}
 use native.Mathlib.Omega.{arith}
 use borrow.Author.Needs.{needs}
 use Rattle.words.proofs.Exact.{yes-exact, exact-as, ltb-exact}
-use Rattle.standing.specs.Numbers.{levelOf}
+use Rattle.session_meaning.specs.Numbers.{levelOf}
 use Rattle.links.proofs.Levelled.{foot-level, over-bottom, first-found}
 use Rattle.session.proofs.rules.rooted.Statement.{statement}
 use Rattle.session.proofs.rules.rooted.Tie as tie

@@ -4,7 +4,7 @@ use Prim.Native.Nat.{ℕ, _+_, _-_, _<_, _≤_}
 use native.Mathlib.Omega.{arith}
 use borrow.Author.Count.{below-more}
 use Rattle.table.specs.File.{rowAt}
-use Rattle.table.specs.Calls.{Before, RowsFrom}
+use Rattle.table.specs.Calls.{RowBefore, RowsFrom}
 use Rattle.table.proofs.Symbols.{stops, before-next, has-before}
 use borrow.Author.Needs.{needs}
 use Rattle.table.proofs.read.rows_from.Statement.{statement}
@@ -12,7 +12,7 @@ use Rattle.table.proofs.read.rows_from.Tie as tie
 
 abbrev Inv-loop : tie.InvT-loop
 Inv-loop file symbol from n first end₀ end =
-    (first ≤ end) × (end ≤ n) × ((k : ℕ) → k < end → Before (rowAt file k) symbol (from + 1))
+    (first ≤ end) × (end ≤ n) × ((k : ℕ) → k < end → RowBefore (rowAt file k) symbol (from + 1))
 
 abbrev μ-loop : tie.MeasureT-loop
 μ-loop file symbol from n first end₀ end = n - end
