@@ -31,30 +31,7 @@ within s t k = go (below-or k s) (below-or k t)
     go (inr g) (inr h) = inr (inr h)
 
 module _ {a e : List ℕ} {i : ℕ} {five : List ℕ} {word : Word} (p : Put a i five word e) (range : i < linksCap) where
-  -- all other links and pieces are the same
-  pub put-others : (k : ℕ) → k < linksCap → (k ≡ i → ⊥) → Same a e k
-  put-others k lt n =
-      record {
-        link = λ j h.
-            p .others (linkStart k + j)
-            (record { link = by 2 5 j h; long = inl (omega arith); piece = inl (omega arith) });
-        long = λ j h.
-            p .others (lengthStart k + j)
-            (record { link = inr (omega arith); long = by 322 2 j h; piece = inl (omega arith) });
-        piece = λ j h.
-            p .others (pieceStart k + j)
-            (record { link = inr (omega arith); long = inr (omega arith); piece = by 450 512 j h });
-      }
-    where
-      by : (s w j : ℕ) → j < w → (s + w * k + j < s + w * i) ⊎ (s + w * (i + 1) ≤ s + w * k + j)
-      by s w j h = go (below-or k i) (below-or i k)
-        where
-          go : (k < i) ⊎ (i ≤ k) → (i < k) ⊎ (k ≤ i) → (s + w * k + j < s + w * i) ⊎ (s + w * (i + 1) ≤ s + w * k + j)
-          go (inl l) o = inl (omega (arith, mul-suc w k, mul-le-mul-left w l))
-          go (inr g) (inl l) = inr (omega (arith, mul-suc w i, mul-le-mul-left w l))
-          go (inr g) (inr h) = absurd (n (omega arith))
-
-  -- and so it is known what was left
+  -- it is known what was left
   pub put-unique : {e′ : List ℕ} → Put a i five word e′ → e ≡ e′
   put-unique {e′} q = ext-getD 0 e e′ (p .whole ∙ sym (q .whole)) (λ k lt. at k)
     where
@@ -84,6 +61,29 @@ module _ {a e : List ℕ} {i : ℕ} {five : List ℕ} {word : Word} (p : Put a i
           go (inr a) (inr b) (inr c) =
               let o : Outside i k = record { link = a; long = b; piece = c } in
               p .others k o ∙ sym (q .others k o)
+
+  -- all other links and pieces are the same
+  pub put-others : (k : ℕ) → k < linksCap → (k ≡ i → ⊥) → Same a e k
+  put-others k lt n =
+      record {
+        link = λ j h.
+            p .others (linkStart k + j)
+            (record { link = by 2 5 j h; long = inl (omega arith); piece = inl (omega arith) });
+        long = λ j h.
+            p .others (lengthStart k + j)
+            (record { link = inr (omega arith); long = by 322 2 j h; piece = inl (omega arith) });
+        piece = λ j h.
+            p .others (pieceStart k + j)
+            (record { link = inr (omega arith); long = inr (omega arith); piece = by 450 512 j h });
+      }
+    where
+      by : (s w j : ℕ) → j < w → (s + w * k + j < s + w * i) ⊎ (s + w * (i + 1) ≤ s + w * k + j)
+      by s w j h = go (below-or k i) (below-or i k)
+        where
+          go : (k < i) ⊎ (i ≤ k) → (i < k) ⊎ (k ≤ i) → (s + w * k + j < s + w * i) ⊎ (s + w * (i + 1) ≤ s + w * k + j)
+          go (inl l) o = inl (omega (arith, mul-suc w k, mul-le-mul-left w l))
+          go (inr g) (inl l) = inr (omega (arith, mul-suc w i, mul-le-mul-left w l))
+          go (inr g) (inr h) = absurd (n (omega arith))
 
 -- what is the same is held as it was, and is as tidy
 pub held-same : {a b : List ℕ} {i : ℕ} {five : List ℕ} {word : Word} → Same a b i → Holds a i five word

@@ -24,7 +24,7 @@ write-places-requires : tie.Need-write-places-requires
 write-places-requires c κs =
     let pre = c .before .before .before .before .before .before .before .pre in
     let few = bounds (c .before) in
-    (few .2, λ i lt. tidy-kept (pre .0) i (omega (arith, few .2)), pre .1)
+    (omega (arith, few .2), λ i lt. tidy-kept (pre .0) i (omega (arith, few .2)), pre .1)
 
 returns : tie.Need-returns
 returns c =
