@@ -16,7 +16,7 @@ use Rattle.words.specs.Words.{Word}
 use Rattle.words.specs.Order.{rank}
 use Rattle.words.proofs.Lists.{each_map, up_to-in}
 use Rattle.words.proofs.Each.{each-each, map_each}
-use Rattle.words.proofs.Order.{less-self, rises-out}
+use Rattle.words.proofs.Ordered.{less-self, rises-out}
 use Rattle.meaning.specs.Table.{Class, return, Row, row_key}
 use Rattle.meaning.specs.Joining.{Mark, mark, mark_key, marks, mark_number, starts_of, rows_from}
 use Rattle.meaning.proofs.Reading.{run-level}

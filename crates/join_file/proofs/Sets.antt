@@ -10,7 +10,7 @@ use lib.Pow.{pow-add, pow_mono, pow_pos, shl_exact}
 use lib.ListN.{drop}
 use Rattle.words.specs.Lists.{◌among◌}
 use Rattle.words.specs.Order.{Rises}
-use Rattle.words.proofs.Order.{first-less}
+use Rattle.words.proofs.Ordered.{first-less}
 use Rattle.words.specs.LittleEndian.{byte, eight}
 use Rattle.meaning.specs.Parts.{final_start}
 use Rattle.meaning.specs.Table.{GoodSet}

@@ -9,7 +9,7 @@ use native.Mathlib.Omega.{arith}
 use Rattle.words.specs.Lists.{◌among◌}
 use Rattle.words.specs.Words.{Bytes}
 use Rattle.words.specs.Order.{Rises}
-use Rattle.words.proofs.Order.{first-less}
+use Rattle.words.proofs.Ordered.{first-less}
 use Rattle.words.proofs.Lists.{below_or}
 use Rattle.meaning.specs.Table.{GoodSet}
 use Rattle.sets.specs.Sets.{members_from, members}

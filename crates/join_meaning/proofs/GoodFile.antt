@@ -6,7 +6,7 @@ use Prim.Native.Nat.{ℕ, ◌+◌, ◌<◌, ◌≤◌}
 use native.Mathlib.Omega.{arith}
 use lib.ListN.{length}
 use Rattle.words.proofs.Lists.{up_to-in}
-use Rattle.words.proofs.Order.{rises-out}
+use Rattle.words.proofs.Ordered.{rises-out}
 use Rattle.words.specs.LittleEndian.{byte, two}
 use Rattle.meaning.specs.Parts.{classes_entry, starting_entry, final_entry, rows_entry, class_count, set_size, classes_start}
 use Rattle.meaning.specs.Parts.{starting_start, final_start}

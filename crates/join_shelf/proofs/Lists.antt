@@ -13,8 +13,8 @@ use Rattle.words.specs.Lists.{◌among◌, up_to}
 use Rattle.words.specs.Words.{Word}
 use Rattle.words.specs.Order.{Less, Side, lower, same, upper, side, same_word, Rises, put_by, put, rank}
 use Rattle.words.proofs.Lists.{map_same, up_to-out, length-up_to}
-use Rattle.words.proofs.Order.{less-self, less-trans, side-lower, side_same, less-side, same_in, same_out}
-use Rattle.words.proofs.Order.{rises-same}
+use Rattle.words.proofs.Ordered.{less-self, less-trans, side-lower, side_same, less-side, same_in, same_out}
+use Rattle.words.proofs.Ordered.{rises-same}
 use Rattle.words.proofs.Arranged.{put-old, put-out, put-key, put-rises, arranged-in, arranged-out, arranged_is}
 use Rattle.words.proofs.Arranged.{arranged-rises}
 use Rattle.join_shelf.specs.Shelved.{word_at, words_of, kept, total}

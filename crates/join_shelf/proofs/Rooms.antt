@@ -17,7 +17,7 @@ use Rattle.words.specs.Words.{Word}
 use Rattle.words.specs.Calls.{Inserted}
 use Rattle.words.specs.Order.{Less, Side, lower, same, upper, side, Rises}
 use Rattle.words.proofs.Lists.{up_to-in, up_to-out, below_or}
-use Rattle.words.proofs.Order.{less-self, side-lower, side_same, side-upper}
+use Rattle.words.proofs.Ordered.{less-self, side-lower, side_same, side-upper}
 use Rattle.words.proofs.Shifted.{inserted-take}
 use Rattle.words.proofs.Pasted.{Pasted, pasted}
 use Rattle.join_shelf.specs.Shelved.{shelf_cap, shelf_room, order_at, start_of, slot_of, word_in, word_at, words_of}

@@ -10,7 +10,7 @@ use Rattle.words.specs.Lists.{up_to}
 use Rattle.words.specs.Words.{Word}
 use Rattle.words.specs.Order.{Less, lower, same, upper, side, rank}
 use Rattle.words.proofs.Lists.{up_to-out, below_or}
-use Rattle.words.proofs.Order.{less-self, less-trans, side-lower, side_same, side-upper, rises-out}
+use Rattle.words.proofs.Ordered.{less-self, less-trans, side-lower, side_same, side-upper, rises-out}
 use Rattle.join_shelf.specs.Shelved.{word_at, words_of, Standing, WordPlace}
 use Rattle.join_shelf.proofs.Lists.{rank-at}
 

@@ -15,7 +15,7 @@ use Rattle.words.specs.Words.{Word, common}
 use Rattle.words.specs.Order.{same_word}
 use Rattle.words.proofs.Lists.{each_in, each-out, only-in, only_out, any-in, any_out, first_of}
 use Rattle.words.proofs.Common.{common-all}
-use Rattle.words.proofs.Order.{same_in, same_out}
+use Rattle.words.proofs.Ordered.{same_in, same_out}
 use Rattle.meaning.specs.Table.{Table}
 use Rattle.meaning.specs.Runs.{Config, Run, Accepting, Allowed, depth}
 use Rattle.meaning.specs.Trails.{Trail, ground, over, trail}

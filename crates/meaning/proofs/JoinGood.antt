@@ -12,7 +12,7 @@ use borrow.Author.Tests.{not-false}
 use Rattle.words.specs.Lists.{◌among◌}
 use Rattle.words.specs.Order.{Less, Rises}
 use Rattle.words.proofs.Lists.{each-out}
-use Rattle.words.proofs.Order.{first-less, rises-map, rises-append}
+use Rattle.words.proofs.Ordered.{first-less, rises-map, rises-append}
 use Rattle.words.proofs.Arranged.{rank_below}
 use Rattle.meaning.specs.Table.{Class, unused, call, return, internal, Row, Table, Limits, MarkFits, GoodSet}
 use Rattle.meaning.specs.Table.{GoodRow, GoodTable}

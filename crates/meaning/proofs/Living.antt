@@ -14,7 +14,7 @@ use Rattle.words.specs.Lists.{◌among◌, only, is_empty, choices, Distinct}
 use Rattle.words.specs.Words.{Word}
 use Rattle.words.proofs.Lists.{both, split, each_append, choices-in, choices-out, choices-map, distinct-map}
 use Rattle.words.proofs.Lists.{distinct-choices}
-use Rattle.words.proofs.Order.{rises-distinct}
+use Rattle.words.proofs.Ordered.{rises-distinct}
 use Rattle.meaning.specs.Table.{Class, unused, call, return, internal, Row, Table, row_key, Limits, GoodTable}
 use Rattle.meaning.specs.Runs.{Config, config, shifted, Takes, Move, Steps, stop, next, said, fresh, Run}
 use Rattle.meaning.specs.Trails.{Trail, ground, over, top, stack_of, with_top, carry, trail_from, trail}

@@ -10,7 +10,7 @@ use Rattle.words.specs.Lists.{◌among◌, each, only}
 use Rattle.words.specs.Words.{Word}
 use Rattle.words.specs.Order.{Less, Rises}
 use Rattle.words.proofs.Common.{begins-not}
-use Rattle.words.proofs.Order.{first-less, rises-map}
+use Rattle.words.proofs.Ordered.{first-less, rises-map}
 use Rattle.meaning.specs.Table.{Table, GoodSet}
 use Rattle.meaning.specs.Trails.{Trail, ground, over, Link, link_of, links, link_key}
 use Rattle.meaning.specs.Living.{Place, place}

@@ -13,7 +13,7 @@ use Rattle.words.specs.Words.{Word, Bytes, Begins}
 use Rattle.words.proofs.Lists.{up_to-in, up_to-out, below_or, get_or-byte, byte-get_or}
 use Rattle.words.proofs.Exact.{no-exact}
 use Rattle.words.proofs.Common.{begins, begins-head, begins-not}
-use Rattle.words.proofs.Order.{rises-in, rises-out}
+use Rattle.words.proofs.Ordered.{rises-in, rises-out}
 use Rattle.words.specs.LittleEndian.{byte}
 use Rattle.meaning.specs.Table.{Table}
 use Rattle.meaning.specs.Trails.{ground, Link, on, link_of, link_key}

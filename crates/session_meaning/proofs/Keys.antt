@@ -8,7 +8,7 @@ use native.Mathlib.Omega.{arith}
 use Rattle.words.specs.Words.{Bytes}
 use Rattle.words.specs.Order.{Less}
 use Rattle.words.proofs.Lists.{get_or-byte}
-use Rattle.words.proofs.Order.{first_below}
+use Rattle.words.proofs.Ordered.{first_below}
 use Rattle.words.specs.LittleEndian.{byte}
 use Rattle.meaning.specs.Trails.{pair_key, link_key}
 use Rattle.session_meaning.specs.Bytes.{link_start, below_at, link_at, NoneBelow}

@@ -6,7 +6,7 @@ use Prim.Native.Nat.{◌≤◌}
 use native.Mathlib.Omega.{arith}
 use Rattle.words.specs.Words.{Word, Begins}
 use Rattle.words.proofs.Common.{begins-same}
-use Rattle.words.proofs.Order.{rises-same}
+use Rattle.words.proofs.Ordered.{rises-same}
 use Rattle.meaning.specs.Table.{Table}
 use Rattle.meaning.specs.Trails.{Trail, ground, over, height, Link, link_of, link_key}
 use Rattle.meaning.proofs.Trails.{Under, under-height}

@@ -9,7 +9,7 @@ use lib.ListN.{length, length-append}
 use Rattle.words.specs.Lists.{◌among◌}
 use Rattle.words.specs.Words.{Word, Begins}
 use Rattle.words.proofs.Common.{begins, begins-head, begins-not, begins-tail, begins-trans}
-use Rattle.words.proofs.Order.{rises-one}
+use Rattle.words.proofs.Ordered.{rises-one}
 use Rattle.meaning.specs.Trails.{Trail, ground, over, height, Link, on, link_of, links, link_key}
 use Rattle.meaning.proofs.Trails.{Under, same, more, under-height}
 use Rattle.session_meaning.specs.Sessions.{Apart, Lies, RisesByLink, Entry, entry, Session, Has, Spells, Waits}

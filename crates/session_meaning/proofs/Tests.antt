@@ -11,7 +11,7 @@ use Rattle.words.specs.Order.{Side, lower, same, upper, side, Less}
 use Rattle.words.proofs.Lists.{both, split, each_in, each-out, only-in, only_out}
 use Rattle.words.proofs.Exact.{yes-exact, no-exact, exact-as, eqb-exact, every-exact, not-exact}
 use Rattle.words.proofs.Common.{begins, begins-head, begins-not}
-use Rattle.words.proofs.Order.{same_in, same_out, less-trans, less-side, side-lower}
+use Rattle.words.proofs.Ordered.{same_in, same_out, less-trans, less-side, side-lower}
 use Rattle.meaning.specs.Trails.{ground, Link, on, link_of, link_key}
 use Rattle.meaning.proofs.Stands.{link_key-one}
 use Rattle.session_meaning.specs.Sessions.{RisesByLink, Entry, entry, Session, Has, AllBegin, on_bottom, stands_on}

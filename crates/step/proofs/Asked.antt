@@ -11,7 +11,7 @@ use Rattle.words.specs.Lists.{◌among◌, is_empty, up_to}
 use Rattle.words.specs.Words.{Word}
 use Rattle.words.specs.Order.{Less}
 use Rattle.words.proofs.Lists.{first_of, length-up_to}
-use Rattle.words.proofs.Order.{rises-out}
+use Rattle.words.proofs.Ordered.{rises-out}
 use Rattle.words.specs.LittleEndian.{byte}
 use Rattle.numbers.specs.Numbers.{number_of}
 use Rattle.numbers.specs.declared.Number.{Number}

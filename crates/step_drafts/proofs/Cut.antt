@@ -10,7 +10,7 @@ use lib.Seq.{drop-drop, take-nil}
 use Rattle.words.specs.Lists.{up_to}
 use Rattle.words.specs.Words.{Word, Bytes}
 use Rattle.words.specs.Order.{Less}
-use Rattle.words.proofs.Order.{rises-out}
+use Rattle.words.proofs.Ordered.{rises-out}
 use Rattle.words.proofs.Lists.{below_or, up_to-out, map_same}
 use Rattle.words.proofs.Pasted.{Pasted, stored}
 use Rattle.words.proofs.Common.{common-begins}

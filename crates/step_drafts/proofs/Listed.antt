@@ -12,7 +12,7 @@ use Rattle.words.specs.Lists.{◌among◌, up_to}
 use Rattle.words.specs.Words.{Word}
 use Rattle.words.specs.Order.{Less, Side, lower, same, upper, side, put_by, put}
 use Rattle.words.proofs.Lists.{length-up_to, get_or-map-up_to, get_or-among, below_or}
-use Rattle.words.proofs.Order.{less-self, less-trans, side-lower, side_same, side-self, less-side}
+use Rattle.words.proofs.Ordered.{less-self, less-trans, side-lower, side_same, side-self, less-side}
 
 module _ {A : Type 0} where
   abbrev pub part : (ℕ → A) → ℕ → ℕ → List A

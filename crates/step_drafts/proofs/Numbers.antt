@@ -13,7 +13,7 @@ use Rattle.words.specs.Lists.{Exact}
 use Rattle.words.specs.Words.{Word, Bytes}
 use Rattle.words.specs.Order.{Less}
 use Rattle.words.proofs.Lists.{get_or-byte}
-use Rattle.words.proofs.Order.{first_below}
+use Rattle.words.proofs.Ordered.{first_below}
 use Rattle.words.proofs.Exact.{exact-as}
 use Rattle.words.specs.LittleEndian.{byte}
 use Rattle.meaning.specs.Trails.{Pair, Link, pair_key, link_key}

@@ -12,7 +12,7 @@ use Rattle.words.specs.Lists.{◌among◌, up_to}
 use Rattle.words.specs.Words.{Word, Bytes}
 use Rattle.words.specs.Order.{Less, put}
 use Rattle.words.proofs.Lists.{below_or}
-use Rattle.words.proofs.Order.{less-self, rises-one, rises-out}
+use Rattle.words.proofs.Ordered.{less-self, rises-one, rises-out}
 use Rattle.words.proofs.Exact.{exact_same, no-exact}
 use Rattle.words.specs.LittleEndian.{byte}
 use Rattle.meaning.specs.Trails.{Link}

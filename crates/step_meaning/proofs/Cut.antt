@@ -7,7 +7,7 @@ use lib.ListN.{length, drop}
 use Rattle.words.specs.Lists.{◌among◌}
 use Rattle.words.specs.Words.{Word}
 use Rattle.words.proofs.Common.{begins-drop, common-begins, common-off}
-use Rattle.words.proofs.Order.{rises-map}
+use Rattle.words.proofs.Ordered.{rises-map}
 use Rattle.meaning.specs.Trails.{Link}
 use Rattle.session_meaning.specs.Sessions.{RisesByLink, Entry, entry, AllBegin}
 use Rattle.session_meaning.specs.Soundly.{pieces_on}

@@ -8,7 +8,7 @@ use Rattle.words.specs.Lists.{◌among◌, Exact}
 use Rattle.words.specs.Words.{Word}
 use Rattle.words.specs.Order.{same_word, put}
 use Rattle.words.proofs.Lists.{either, neither}
-use Rattle.words.proofs.Order.{same_in, same_out, rises-one}
+use Rattle.words.proofs.Ordered.{same_in, same_out, rises-one}
 use Rattle.words.proofs.Exact.{and-exact, not-exact, any-exact, same-exact}
 use Rattle.words.proofs.Arranged.{put-old, put-out, put-key, put-rises}
 use Rattle.meaning.specs.Trails.{Link}

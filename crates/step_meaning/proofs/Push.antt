@@ -11,7 +11,7 @@ use Rattle.words.specs.Lists.{◌among◌, only}
 use Rattle.words.specs.Words.{Word, common}
 use Rattle.words.proofs.Lists.{map_same, empty-in, empty-out}
 use Rattle.words.proofs.Common.{common-among}
-use Rattle.words.proofs.Order.{rises-map}
+use Rattle.words.proofs.Ordered.{rises-map}
 use Rattle.meaning.specs.Trails.{Link, pair_key}
 use Rattle.session_meaning.specs.Sessions.{RisesByLink, Entry, entry}
 use Rattle.session_meaning.specs.Soundly.{pieces_on}

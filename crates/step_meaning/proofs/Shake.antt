@@ -12,7 +12,7 @@ use borrow.Author.Tests.{eq-eqb}
 use Rattle.words.specs.Lists.{◌among◌, each, Exact}
 use Rattle.words.specs.Words.{Word}
 use Rattle.words.proofs.Lists.{each_in, each-out, fewer}
-use Rattle.words.proofs.Order.{rises-distinct, rises-append, rises-passing, rises-map}
+use Rattle.words.proofs.Ordered.{rises-distinct, rises-append, rises-passing, rises-map}
 use Rattle.words.proofs.Exact.{eqb-exact, or-exact, any-exact}
 use Rattle.words.proofs.Arranged.{arranged_is}
 use Rattle.meaning.specs.Table.{Table}

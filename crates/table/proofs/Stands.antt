@@ -14,7 +14,7 @@ use Rattle.words.specs.Lists.{◌among◌, up_to}
 use Rattle.words.specs.Words.{Bytes}
 use Rattle.words.specs.Order.{Less, Rises}
 use Rattle.words.proofs.Lists.{up_to-out, length-up_to, get_or-byte}
-use Rattle.words.proofs.Order.{less-trans, rises-append}
+use Rattle.words.proofs.Ordered.{less-trans, rises-append}
 use Rattle.words.specs.LittleEndian.{byte, two, eight}
 use Rattle.meaning.specs.Parts.{class_count, starting_start, final_start}
 use Rattle.meaning.specs.Table.{row_key, Row, GoodSet, GoodRow, GoodTable}

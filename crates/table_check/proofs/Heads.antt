@@ -5,7 +5,7 @@ use mathlib.Core.Logic.{◌↔◌, inr}
 use Prim.Native.Nat.{ℕ, ◌<◌}
 use native.Mathlib.Omega.{arith}
 use Rattle.words.specs.Order.{Less, lower, side}
-use Rattle.words.proofs.Order.{less-self, less-trans, side-lower, less-side, first_below, first-same}
+use Rattle.words.proofs.Ordered.{less-self, less-trans, side-lower, less-side, first_below, first-same}
 use Rattle.meaning.specs.Table.{Row, row_key}
 use Rattle.table.specs.Calls.{Headed}
 

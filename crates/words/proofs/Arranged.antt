@@ -10,12 +10,13 @@ use lib.ListN.{length}
 use Rattle.words.specs.Lists.{◌among◌}
 use Rattle.words.specs.Words.{Word}
 use Rattle.words.specs.Order.{Less, Side, lower, same, upper, side, Rises, put_by, put, arranged, same_word, rank}
-use Rattle.words.proofs.Order.{less-trans, side-lower, side_same, side-upper, same_out, same_in, rises-same}
+use Rattle.words.proofs.Ordered.{less-trans, side-lower, side_same, side-upper, same_out, same_in, rises-same}
 
 module _ {A : Type 0} (key : A → Word) where
   -- what is in it
 
   pub put-old : (x z : A) (l : List A) → z among l → z among put key x l
+  put-old x z [] m = elim m [ ]
   put-old x z (y ∷ l) m = go (side (key x) (key y)) m (λ n. put-old x z l n)
     where
       go : (s : Side) → z among y ∷ l → (z among l → z among put key x l) → z among put_by key s x y l (put key x l)
@@ -42,6 +43,7 @@ module _ {A : Type 0} (key : A → Word) where
           deeper (inr n) = inr (Memᴰ.tail n)
 
   pub arranged-out : (z : A) (l : List A) → z among arranged key l → z among l
+  arranged-out z [] m = elim m [ ]
   arranged-out z (x ∷ l) m = go (put-out x z (arranged key l) m) (λ n. arranged-out z l n)
     where
       go : (z ≡ x) ⊎ (z among arranged key l) → (z among arranged key l → z among l) → z among x ∷ l
@@ -91,6 +93,7 @@ module _ {A : Type 0} (key : A → Word) where
     put-new x l = let z = put-key x l in Memᴰ.cast (one x z.0 z.2) z.1
 
     pub arranged-in : (z : A) (l : List A) → z among l → z among arranged key l
+    arranged-in z [] x' = elim x' [ ]
     arranged-in z (x ∷ l) (Memᴰ.head e) = rw e (put-new x (arranged key l))
     arranged-in z (x ∷ l) (Memᴰ.tail m) = put-old x z (arranged key l) (arranged-in z l m)
 
@@ -116,6 +119,7 @@ module _ {A : Type 0} (key : A → Word) where
 
   -- a rank is below the length
   pub rank_below : (l : List A) (x : A) → x among l → rank key l x < length l
+  rank_below [] x m = elim m [ ]
   rank_below (y ∷ l) x m = go (same_word (key x) (key y)) refl (rank_below l x)
     where
       go : (b : Bool) → same_word (key x) (key y) ≡ b → (x among l → rank key l x < length l)

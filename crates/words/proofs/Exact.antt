@@ -11,7 +11,7 @@ use Rattle.words.specs.Lists.{◌among◌, Exact, every, any_of, is_empty}
 use Rattle.words.specs.Words.{Word}
 use Rattle.words.specs.Order.{same_word}
 use Rattle.words.proofs.Lists.{both, split, either, every_in, every-out, any-in, any_out, empty-in, empty-out}
-use Rattle.words.proofs.Order.{same_in, same_out}
+use Rattle.words.proofs.Ordered.{same_in, same_out}
 
 -- a test that passed, and one that did not
 pub yes-exact : {P : Type 0} → P → Exact P true

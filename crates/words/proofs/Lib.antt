@@ -4,7 +4,7 @@
 pub mod Lists
 pub mod Each
 pub mod Common
-pub mod Order
+pub mod Ordered
 pub mod Arranged
 pub mod Exact
 pub mod Below

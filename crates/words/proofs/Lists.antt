@@ -32,6 +32,7 @@ neither false b e = (refl, e)
 -- each
 
 pub each_in : {A B : Type 0} (f : A → List B) {x : A} {y : B} (l : List A) → x among l → y among f x → y among each f l
+each_in {A = A} {B = B} f {y = y} [] x3 n = elim x3 [ ]
 each_in f (z ∷ l) (Memᴰ.head e) n = Memᴰ.append_left (each f l) (rw e at n)
 each_in f (z ∷ l) (Memᴰ.tail m) n = Memᴰ.append_right (f z) (each_in f l m n)
 
@@ -186,6 +187,7 @@ distinct-choices {A} {B} {C} test make X Y d e one = distinct-each (λ x. row x)
 -- a list without one of its things
 without : {A : Type 0} (x : A) (k : List A) → x among k
     → (r : List A) × (length k ≡ suc (length r)) × ((z : A) → z among k → (z ≡ x) ⊎ (z among r))
+without {A = A} x [] x'' = elim x'' [ ]
 without {A} x (y ∷ k) (Memᴰ.head e) = (k, refl, λ z m. go z (Memᴰ.cases_cons m))
   where
     go : (z : A) → (z ≡ y) ⊎ (z among k) → (z ≡ x) ⊎ (z among k)
@@ -223,10 +225,12 @@ every_in f [] h = refl
 every_in f (x ∷ l) h = both (h x (Memᴰ.head refl)) (every_in f l (λ y m. h y (Memᴰ.tail m)))
 
 pub every-out : {A : Type 0} (f : A → Bool) (l : List A) → every f l ≡ true → (x : A) → x among l → f x ≡ true
+every-out {A = A} f [] e x x4 = elim x4 [ ]
 every-out f (y ∷ l) e x (Memᴰ.head d) = rw d (split (f y) (every f l) e).0
 every-out f (y ∷ l) e x (Memᴰ.tail m) = every-out f l (split (f y) (every f l) e).1 x m
 
 pub any-in : {A : Type 0} (f : A → Bool) {x : A} (l : List A) → x among l → f x ≡ true → any_of f l ≡ true
+any-in {A = A} f [] x3 e = elim x3 [ ]
 any-in f (y ∷ l) (Memᴰ.head d) e = rw (rw d at e)
 any-in f (y ∷ l) (Memᴰ.tail m) e = go (f y) (any-in f l m e)
   where
@@ -302,6 +306,7 @@ get_or-byte l h i = go (below_or i (length l))
 
 -- and a list with a byte at each place is one of bytes
 pub byte-get_or : (l : Word) → ((i : ℕ) → get_or l i 0 < 256) → Bytes l
+byte-get_or [] h b x'' = elim x'' [ ]
 byte-get_or (x ∷ l) h b (Memᴰ.head e) = rw e (h 0)
 byte-get_or (x ∷ l) h b (Memᴰ.tail m) = byte-get_or l (λ i. h (suc i)) b m
 

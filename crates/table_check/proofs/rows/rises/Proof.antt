@@ -4,7 +4,7 @@ use Prim.Native.Nat.{◌+◌}
 use native.Mathlib.Omega.{arith}
 use Rattle.words.specs.Order.{side}
 use Rattle.words.specs.Calls.{side_of}
-use Rattle.words.proofs.Order.{same≢lower, upper≢lower}
+use Rattle.words.proofs.Ordered.{same≢lower, upper≢lower}
 use Rattle.table.specs.File.{word_of}
 use Rattle.words.proofs.Exact.{yes-exact, no-exact}
 use Rattle.table_check.proofs.Heads.{head-less, head_more, words-rise, words-stay}

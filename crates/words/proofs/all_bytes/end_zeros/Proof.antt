@@ -8,7 +8,7 @@ use Rattle.words.proofs.all_bytes.end_zeros.Tie as tie
 returns : tie.Need-returns
 returns c =
     let asked = c.before.before.before.before.before.requires in
-    ends-exact _ _ asked.0 asked.1 (rw sub-zero at c.before.before.together.ensures) c.together2.ensures
+    ends-exact _ _ asked.0 asked.1 (rw sub-zero at c.before.before.together.ensures) c.together-2.ensures
 
 pub end-zeros-spec : {M : Type 1} → statement M
 end-zeros-spec =

@@ -128,6 +128,7 @@ module _ {A : Type 0} (key : A → Word) where
 
   -- in a rising list a key is there once
   pub rises-one : (l : List A) → Rises key l → (x y : A) → x among l → y among l → key x ≡ key y → x ≡ y
+  rises-one [] r x y x6 _ e = elim x6 [ ]
   rises-one (z ∷ l) r x y (Memᴰ.head a) (Memᴰ.head b) e = a ∙ sym b
   rises-one (z ∷ l) r x y (Memᴰ.head a) (Memᴰ.tail n) e =
       let k : key z ≡ key y = ap key (sym a) ∙ e in
