@@ -61,6 +61,7 @@ pub known-all : (k : ℕ → Class) (w : Word) → ((i : ℕ) → i < length w �
 known-all k w f = record { each = at w f }
   where
     at : (w : Word) → ((i : ℕ) → i < length w → k (get_or w i 0) ≡ unused → ⊥) → (a : ℕ) → a among w → k a ≡ unused → ⊥
+    at mathlib.Core.List.[] f a x3 u = elim x3 [ ]
     at (x ∷ w) f a (Memᴰ.head e) u = f 0 (omega arith) (ap k (sym e) ∙ u)
     at (x ∷ w) f a (Memᴰ.tail m) u = at w (λ i l. f (suc i) (omega arith)) a m u
 

@@ -25,6 +25,7 @@ use Rattle.session_meaning.specs.Bytes.{link_at, piece_at, entry_at, session_of,
 
 -- what is made alike of a list is made alike of each thing in it
 map-one : {A B : Type 0} (f g : A → B) (l : List A) {x : A} → map f l ≡ map g l → x among l → f x ≡ g x
+map-one {A = A} {B = B} f g mathlib.Core.List.[] e x4 = elim x4 [ ]
 map-one f g (y ∷ l) e (Memᴰ.head h) = ap f h ∙ head-eq_of_cons-eq e ∙ ap g (sym h)
 map-one f g (y ∷ l) e (Memᴰ.tail m) = map-one f g l (tail-eq_of_cons-eq e) m
 

@@ -37,6 +37,7 @@ module _ (test : Link → Bool) where
 
   -- none that passes is more
   most-each : (H : List Load) (h : Load) → h among H → test h.link ≡ true → h.bytes ≤ most test H
+  most-each [] h x'' t = elim x'' [ ]
   most-each (k ∷ H) h (Memᴰ.head e) t =
       let s : test k.link ≡ true = ap (λ (h : Load). test h.link) (sym e) ∙ t in
       let f : h.bytes ≡ k.bytes = ap (λ (h : Load). h.bytes) e in

@@ -76,6 +76,7 @@ keep-old k (e ∷ es) {z} m = keep-old (put entry_key e k) es (put-old entry_key
 
 -- each link is there
 pub keep-linked : (k es : List Entry) (l : Link) (x : Word) → entry l x among es → Linked (keep k es) l
+keep-linked k [] l x x3 = elim x3 [ ]
 keep-linked k (e ∷ es) l x (Memᴰ.head h) =
     let z = put-key entry_key e k in
     let d = ap (λ (z : Entry). z.link) h ∙ link_key-one e.link z.0.link z.2 in
@@ -106,6 +107,7 @@ put_in e k c = let z = put-key entry_key e k in go z.0 z.1 z.2 (put-out entry_ke
         Memᴰ.cast (λ i. entry (l i) (p i)) m
 
 pub keep-in : (k es : List Entry) {z : Entry} → conflict k es ≡ false → z among es → z among keep k es
+keep-in k [] {z = z} c x'' = elim x'' [ ]
 keep-in k (e ∷ es) c (Memᴰ.head h) =
     let n = neither (clashes e k) (conflict (put entry_key e k) es) c in
     keep-old (put entry_key e k) es (Memᴰ.cast h (put_in e k n.0))

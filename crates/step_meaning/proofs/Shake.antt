@@ -64,6 +64,7 @@ shake-out n (e ∷ es) z m = go (carried n e.link (shake n es)) refl m (shake-ou
 -- of entries that rise, what is carried by what stays does stay: what stands on an entry comes after it
 pub shake-in : (n : ℕ) (E : List Entry) → RisesByLink E → (z : Entry) → z among E → Carried n z.link (shake n E)
     → z among shake n E
+shake-in n [] r z m h = elim m [ ]
 shake-in n (e ∷ es) r z m h = go (carried n e.link (shake n es)) refl m h (shake-in n es r.1 z)
   where
     narrower : e.link.level ≤ z.link.level → Carried n z.link (e ∷ shake n es) → Carried n z.link (shake n es)
