@@ -28,7 +28,7 @@ pub(crate) fn all() {
 }
 
 // What `join` answers, in numbers.
-#[derive(Drop)]
+#[derive(Clone, Copy)]
 struct Said {
     number: u64,
     which: u64,

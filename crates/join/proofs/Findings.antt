@@ -127,4 +127,5 @@ module _ (second : List ℕ) (marks : List Word) (goal : Goal) where
 
 -- a word that is not empty, by its first byte
 pub word_first : (w : Word) → 0 < length w → w ≡ get_or w 0 0 ∷ take (length w - 1) (drop 1 w)
+word_first [] l = elim l [ ]
 word_first (x ∷ w) l = ap (λ (v : Word). x ∷ v) (sym (take_all (suc (length w) - 1) w (omega arith)))

@@ -16,14 +16,14 @@ use table::Class;
 use words::{copy, wide};
 
 // What the rows of the first are read for: the marks that call rows push; or the joined rows, once all marks stand.
-#[derive(Drop)]
+#[derive(Clone, Copy)]
 pub enum Wanted {
     Marks,
     Rows { count: usize },
 }
 
 // How a row is read: not at all; from an empty stack, with what an ending gives; or from the list of each mark.
-#[derive(Drop)]
+#[derive(Clone, Copy)]
 enum Plan {
     Skip,
     Read { goal: Goal },
@@ -31,7 +31,7 @@ enum Plan {
 }
 
 // A row of the first, and the state of the second that it is read from.
-#[derive(Drop)]
+#[derive(Clone, Copy)]
 struct Spot {
     row: usize,
     state: usize,

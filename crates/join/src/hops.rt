@@ -18,7 +18,7 @@ use join_shelf::{SHELF, Shelf};
 use numbers::{Number, is_taken};
 
 // What joining answers: its number, which table is bad (1 or 2; 0 where none is), and how many bytes it wrote.
-#[derive(Drop)]
+#[derive(Clone, Copy)]
 pub struct Joined {
     pub number: Number,
     pub table: u32,

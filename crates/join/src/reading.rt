@@ -23,7 +23,7 @@ pub const TAPE: usize = 4128;
 pub const WRITTEN: usize = 32;
 
 // Where a reading stands: its state, how high its stack is, and where what it wrote ends on the tape.
-#[derive(Drop)]
+#[derive(Clone, Copy)]
 pub struct Cursor {
     pub state: usize,
     pub height: usize,
@@ -31,7 +31,7 @@ pub struct Cursor {
 }
 
 // A row of a class that may be taken from there.
-#[derive(Drop)]
+#[derive(Clone, Copy)]
 pub struct Turn {
     pub class: Class,
     pub row: usize,
@@ -40,7 +40,7 @@ pub struct Turn {
 
 // What an ending gives: the mark that a joined call row pushes; a joined call row, its marker's number looked up among
 // so many marks; or a joined row that must end with nothing on the second's stack. Its state is a number above `base`.
-#[derive(Drop)]
+#[derive(Clone, Copy)]
 pub enum Goal {
     Mark {
         marker: u8,

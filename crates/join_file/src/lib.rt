@@ -18,7 +18,7 @@ use table::{
 use words::{put_byte, put_bytes};
 
 // How many markers and rows the joined table has, and how many bytes its words have together.
-#[derive(Drop)]
+#[derive(Clone, Copy)]
 pub struct Sizes {
     pub markers: usize,
     pub rows: usize,

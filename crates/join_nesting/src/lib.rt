@@ -12,7 +12,7 @@ ghost use Rattle.join_nesting.specs.Nesting.{PairNests, PairsNest, RowNests, Row
 use table::Class;
 
 // How many headers are open; broken where a return closed nothing, or a symbol has class 0.
-#[derive(Drop)]
+#[derive(Clone, Copy)]
 enum Level {
     Broken,
     Open { many: usize },

@@ -23,7 +23,7 @@ const STARTS: usize = 5120;
 const ORDER: usize = 5634;
 
 // What stands on a shelf: so many words with so many bytes; or there was no room for one.
-#[derive(Drop)]
+#[derive(Clone, Copy)]
 pub enum Shelf {
     Full,
     Made { count: usize, used: usize },

@@ -23,7 +23,7 @@ const LENGTHS: usize = 322;
 pub const HEAD: usize = 450;
 
 // A link by value.
-#[derive(Drop)]
+#[derive(Clone, Copy)]
 pub struct Link {
     pub level: u8,
     pub state: u8,

@@ -5,7 +5,7 @@ ghost use Rattle.numbers.specs.Numbers.{number_of};
 ghost use Rattle.numbers.specs.declared.Number.TheVariants.{Taken};
 
 // The names of document 01's table of numbers, in its order.
-#[derive(Drop)]
+#[derive(Clone, Copy)]
 pub enum Number {
     Taken,
     BadTable,
@@ -26,7 +26,7 @@ pub enum Number {
 }
 
 // What a call answers: its number, and how many bytes it wrote; of begin, how many starting states there are.
-#[derive(Drop)]
+#[derive(Clone, Copy)]
 pub struct Answer {
     pub number: Number,
     pub count: usize,

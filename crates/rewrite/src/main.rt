@@ -57,7 +57,7 @@ fn on_length(file: &mut [u8], long: usize)
 }
 
 // How many bytes a read gave, 0 at the end of the input, and whether it failed.
-#[derive(Drop)]
+#[derive(Clone, Copy)]
 struct Got {
     failed: bool,
     count: usize,

@@ -8,7 +8,7 @@ use session_bytes::SIZE;
 use step::WORK;
 
 // Whether a symbol was taken, and the place after its line.
-#[derive(Drop)]
+#[derive(Clone, Copy)]
 pub struct Tried {
     pub taken: bool,
     pub next: usize,

@@ -13,7 +13,7 @@ use links::Link;
 use words::{Order, same};
 
 // What became of an entry: its link is there with the same piece, with another, it is new, or there is no slot left.
-#[derive(Drop)]
+#[derive(Clone, Copy)]
 pub enum Keeping {
     Same,
     Other,

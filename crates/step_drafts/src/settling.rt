@@ -14,14 +14,14 @@ use links::levels::{LEVELS, PAIRS};
 use words::common_length;
 
 // What pieces have in common: so many bytes of the room, from a place on.
-#[derive(Drop)]
+#[derive(Clone, Copy)]
 pub struct Common {
     pub at: usize,
     pub length: usize,
 }
 
 // What is to be sent, as a part of the room, and how long the longest output is that then waits.
-#[derive(Drop)]
+#[derive(Clone, Copy)]
 pub struct Settled {
     pub at: usize,
     pub length: usize,

@@ -21,7 +21,7 @@ use words::wide;
 
 // What is made so far: whether two ways to one link had different pieces; or a link too many. Those that add leave the
 // second as it is, so that nobody else asks.
-#[derive(Drop)]
+#[derive(Clone, Copy)]
 pub enum Growth {
     Full,
     Made { clash: bool },

@@ -53,7 +53,7 @@ pub fn final_set(file: &[u8]) -> u64
     load_eight(file, FINAL_START)
 }
 
-#[derive(Drop)]
+#[derive(Clone, Copy)]
 pub enum Class {
     Unused,
     Call,
@@ -165,7 +165,7 @@ pub fn first_row(file: &[u8], symbol: u8, from: usize) -> usize
 }
 
 // The rows of a symbol from a state, which stand side by side: those from `first` on that are below `end`.
-#[derive(Drop)]
+#[derive(Clone, Copy)]
 pub struct Rows {
     pub first: usize,
     pub end: usize,

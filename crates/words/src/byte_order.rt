@@ -5,7 +5,7 @@ ghost use Rattle.words.specs.Order.{side};
 ghost use Rattle.words.specs.Calls.{side_of};
 
 // Where one word stands to another.
-#[derive(Drop)]
+#[derive(Clone, Copy)]
 pub enum Order {
     Before,
     Same,
