@@ -1,11 +1,11 @@
 -- `links::weigh::most_on` meets its contract: the links before j are looked at. Assumes nothing.
-use mathlib.Core.Logic.{⊎_elim}
 use Prim.Native.Nat.{◌+◌, ◌-◌}
 use native.Mathlib.Omega.{arith}
 use Rattle.session_meaning.specs.Numbers.{level_of}
 use Rattle.links.proofs.Weighed.{sought-past, sought-met}
 use Rattle.links.proofs.Levelled.{sought-level, sought-ended}
 use Rattle.links.proofs.weigh.most_on.Goals as goal
+use Rattle.links.proofs.weigh.most_on.Goals.{then-foot-below, else-foot-below}
 
 pub start-end-requires : goal.start-end-requires
 start-end-requires c = omega (arith, c.requires.levelled.1)
@@ -34,8 +34,10 @@ loop-j-preserved c = let inv = c.loop-j.invariant in
       inv.1,
       inv.2,
       omega arith,
-      ⊎_elim (λ w. sought-met inv.4 (omega arith) (omega arith) weighed (omega arith))
-          (λ w. sought-past inv.4 (omega arith) (λ e. omega arith) (omega arith)) c.if-foot-below.branch,
+      elim c.if-foot-below.branch [
+          then-foot-below w ↦ sought-met inv.4 (omega arith) (omega arith) weighed (omega arith)
+        | else-foot-below w ↦ sought-past inv.4 (omega arith) (λ e. omega arith) (omega arith)
+      ],
     )
 
 pub returns : goal.returns

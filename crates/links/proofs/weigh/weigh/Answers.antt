@@ -16,7 +16,10 @@ pub most_on-above-requires : goal.most_on-above-requires
 most_on-above-requires c = let levels = c.requires.levelled.0 in
     let is = c.seat.ensures in
     let past = seat-past levels _ c.requires.i_bound.0 is in
-record {levelled = (levels, seat-low levels _ c.requires.i_bound.0 is); weighed = weighed-on c.requires.i_bound.1 (omega (arith, past)); }
+    record {
+      levelled = (levels, seat-low levels _ c.requires.i_bound.0 is);
+      weighed = weighed-on c.requires.i_bound.1 (omega (arith, past));
+    }
 
 pub long-own-requires : goal.long-own-requires
 long-own-requires c = (c.requires.levelled.0.graded.whole, omega (arith, c.requires.i_bound.0, c.requires.levelled.0.graded.few))
