@@ -27,23 +27,27 @@ returns-then-not-links c = not_sound (lent (goal.at.returns-then-not-links c).Af
     (λ p. denied c.links.ensures (ap not c.if-not-links.true) p.links)
 
 pub on_links-requires : goal.on_links-requires
-on_links-requires c = let links = granted c.links.ensures (ap not c.if-not-links.false) in
-record {good_file = (c.requires, omega arith, omega (arith, shallow c.requires)); lent = (lent (goal.at.on_links-requires c).After-count-count, links); }
+on_links-requires c =
+    let links = granted c.links.ensures (ap not c.if-not-links.false) in
+    record {
+      good_file = (c.requires, omega arith, omega (arith, shallow c.requires));
+      lent = (lent (goal.at.on_links-requires c).After-count-count, links);
+    }
 
 pub returns : goal.returns
 returns c = let sound = by_place (lent (goal.at.returns c).After-count-count) in (
-      λ s.
-          let p = sound.1 s in
-          c.on_links.ensures.0 (record { groups = p.groups; waiting = p.waiting; unused = p.unused }),
-      λ t.
-          let rest = c.on_links.ensures.1 t in
-          sound.0
-          (record {
-            depth = omega arith;
-            count = (omega arith, omega arith);
-            links = granted c.links.ensures (ap not c.if-not-links.false);
-            groups = rest.groups;
-            waiting = rest.waiting;
-            unused = rest.unused;
-          }),
-    )
+  λ s.
+      let p = sound.1 s in
+      c.on_links.ensures.0 (record { groups = p.groups; waiting = p.waiting; unused = p.unused }),
+  λ t.
+      let rest = c.on_links.ensures.1 t in
+      sound.0
+      (record {
+        depth = omega arith;
+        count = (omega arith, omega arith);
+        links = granted c.links.ensures (ap not c.if-not-links.false);
+        groups = rest.groups;
+        waiting = rest.waiting;
+        unused = rest.unused;
+      }),
+)

@@ -2,14 +2,14 @@
 -- foot. Assumes nothing.
 use mathlib.Core.Path.{ap}
 use mathlib.Core.Bool.{not}
-use mathlib.Core.Logic.{⊎_elim}
-use Prim.Native.Nat.{◌+◌, ◌-◌}
+use Prim.Native.Nat.{◌+◌}
 use native.Mathlib.Omega.{arith}
 use Rattle.words.proofs.Exact.{yes-exact, no-exact, denied, granted}
 use Rattle.session_meaning.specs.Numbers.{level_of}
 use Rattle.session_meaning.proofs.Passed.{heads-next, heads-skip, heads-apart}
 use Rattle.session.proofs.Rising.{heads-level, heads-ended}
 use Rattle.session.proofs.rules.apart.Goals as goal
+use Rattle.session.proofs.rules.apart.Goals.{then-foot+else-not-agrees, else-foot}
 
 pub start-end-requires : goal.start-end-requires
 start-end-requires c = omega (arith, c.requires.2)
@@ -35,16 +35,18 @@ returns-then-not-agrees c = yes-exact
     (denied c.agrees.ensures (ap not c.if-not-agrees.true)))
 
 pub loop-j-preserved : goal.loop-j-preserved
-loop-j-preserved c = let inv = c.loop-j.invariant in (
-  inv.0,
-  inv.1,
-  inv.2,
-  ⊎_elim
-      (λ w.
-      let agrees = granted w.2.ensures w.3.left in
-      rw w.4 (heads-next inv.3 _ w.1.ensures (omega (arith, w.0.taken)) agrees))
-      (λ w. rw w.1 (heads-skip inv.3 (λ e. omega (arith, w.0.left)))) c.if-foot.branch,
-)
+loop-j-preserved c =
+    let inv = c.loop-j.invariant in (
+      inv.0,
+      inv.1,
+      inv.2,
+      elim c.if-foot.branch [
+        | then-foot+else-not-agrees w ↦
+            let agrees = granted w.agrees.ensures (ap not w.if-not-agrees.false) in
+            rw w.first-is (heads-next inv.3 _ w.head-head.ensures (omega arith) agrees)
+        | else-foot w ↦ rw w.first-is (heads-skip inv.3 (λ e. omega arith))
+      ],
+    )
 
 pub returns : goal.returns
 returns c = let inv = c.loop-j.invariant in

@@ -1,7 +1,6 @@
 -- `session::rules::links` meets its contract: links passed fit and rise. Assumes nothing.
 use mathlib.Core.Path.{ap}
 use mathlib.Core.Bool.{not}
-use Prim.Native.Nat.{◌-◌}
 use native.Mathlib.Omega.{arith}
 use Rattle.words.proofs.Exact.{yes-exact, no-exact, denied, granted}
 use Rattle.session_meaning.proofs.Passed.{risen-start, risen-next, risen-not, risen-all}
