@@ -1,5 +1,4 @@
 -- `join_file::put_rows` meets its contract. Assumes nothing.
-use Prim.Native.Nat.{◌-◌}
 use native.Mathlib.Omega.{arith}
 use Rattle.join_file.specs.Written.{Key}
 use Rattle.join_file.proofs.Rows.{rows_none, rows_whole, rows_all, row-key, row_room, row_put}

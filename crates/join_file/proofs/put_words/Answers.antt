@@ -1,5 +1,4 @@
 -- `join_file::put_words` meets its contract. Assumes nothing.
-use Prim.Native.Nat.{◌-◌}
 use native.Mathlib.Omega.{arith}
 use Rattle.join_file.specs.Written.{Key}
 use Rattle.join_file.proofs.Rows.{words-none, words-whole, words-all, word-key, word_room, word-put}

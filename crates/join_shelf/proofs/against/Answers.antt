@@ -10,7 +10,8 @@ use Rattle.join_shelf.proofs.Lists.{side-first, side-short}
 use Rattle.join_shelf.proofs.against.Goals as goal
 
 pub returns-then-word-n : goal.returns-then-word-n
-returns-then-word-n c = c.compare.ensures ∙ sym (side-short c.args.head.now c.args.tail.now c.args.word.now (omega arith))
+returns-then-word-n c =
+    c.compare.ensures ∙ sym (side-short c.args.head.now c.args.tail.now c.args.word.now (omega arith))
 
 pub slice_bounds-compare-end : goal.slice_bounds-compare-end
 slice_bounds-compare-end c = sym (length-take-le (length c.args.head.now) c.args.word.now (omega arith))

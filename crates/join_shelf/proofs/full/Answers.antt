@@ -9,4 +9,5 @@ pub returns-in-Full : goal.returns-in-Full
 returns-in-Full c = yes-exact c.in-Full.is
 
 pub returns-in-Made : goal.returns-in-Made
-returns-in-Made c = no-exact (λ e. absurd (let f = c.in-Made.is in let z : ◌≡◌ {A = ℕ} 0 1 = cc in omega arith))
+returns-in-Made c =
+    no-exact (λ e. absurd (let f = c.in-Made.is in let z : ◌≡◌ {A = ℕ} 0 1 = cc in omega arith))

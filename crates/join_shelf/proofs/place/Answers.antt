@@ -10,48 +10,43 @@ use Rattle.join_shelf.specs.Shelved.{word_at}
 use Rattle.join_shelf.proofs.Turns.{narrowed-start, narrowed-same, narrowed-before, narrowed-after}
 use Rattle.join_shelf.proofs.Turns.{narrowed-place}
 use Rattle.join_shelf.proofs.place.Goals as goal
-use Rattle.join_shelf.proofs.place.Goals.{After-against, In-loop-low, Start}
+use Rattle.join_shelf.proofs.place.Goals.{After-against}
 
--- what holds before the loop, and the place that a turn looks at
-module _ (c : In-loop-low) where
-  abbrev start : Start
-  start = c.before.before.before.before
+-- the place that a turn looks at, and what is said of the word there
+abbrev middle : ℕ → ℕ → ℕ
+middle low high = low + (high - low) / 2
 
-  abbrev middle : ℕ
-  middle = c.loop-low.low + (c.loop-low.high - c.loop-low.low) / 2
-
-found : (c : After-against) → let z = (start test).args in
-    side_of c.against.result
-    ≡ side (z.head.now ++ z.tail.now) (word_at z.room.now (middle test))
-found c =
-    let z = (start c.before.before).args in
-    c.against.ensures ∙ ap (side (z.head.now ++ z.tail.now)) c.word.ensures
+found : (c : After-against) → side_of c.against.result
+    ≡ side (c.args.head.now ++ c.args.tail.now) (word_at c.args.room.now (middle c.loop-low.low c.loop-low.high))
+found c = c.against.ensures ∙ ap (side (c.args.head.now ++ c.args.tail.now)) c.word.ensures
 
 pub loop-low-init : goal.loop-low-init
 loop-low-init c = narrowed-start
 
 pub overflow_add-middle : goal.overflow_add-middle
-overflow_add-middle c = omega (arith, (start (goal.at.overflow_add-middle c).In-loop-low).requires.few)
+overflow_add-middle c = omega (arith, c.requires.few)
 
 pub word-requires : goal.word-requires
-word-requires c = record { count = _; standing = (start (goal.at.word-requires c).In-loop-low).requires; within = omega (arith, c.loop-low.invariant.within) }
+word-requires c = record { count = _; standing = c.requires; within = omega (arith, c.loop-low.invariant.within) }
 
 pub loop-low-preserved-in-Before : goal.loop-low-preserved-in-Before
-loop-low-preserved-in-Before c = narrowed-before (start (goal.at.loop-low-preserved-in-Before c).In-loop-low).requires c.loop-low.invariant (middle (goal.at.loop-low-preserved-in-Before c).In-loop-low) (omega arith) (omega arith)
+loop-low-preserved-in-Before c =
+    narrowed-before c.requires c.loop-low.invariant (middle c.loop-low.low c.loop-low.high) (omega arith) (omega arith)
     (sym (found (goal.at.loop-low-preserved-in-Before c).After-against) ∙ ap side_of c.in-Before.is)
 
 pub returns-in-Same : goal.returns-in-Same
-returns-in-Same c = let pre = (start (goal.at.returns-in-Same c).In-loop-low).requires in
+returns-in-Same c =
     let here =
-    narrowed-same pre (middle (goal.at.returns-in-Same c).In-loop-low) (omega (arith, c.loop-low.invariant.within))
+    narrowed-same c.requires (middle c.loop-low.low c.loop-low.high) (omega (arith, c.loop-low.invariant.within))
     (sym (found (goal.at.returns-in-Same c).After-against) ∙ ap side_of c.in-Same.is) in
-    narrowed-place pre here (omega arith)
+    narrowed-place c.requires here (omega arith)
 
 pub overflow_add-low : goal.overflow_add-low
-overflow_add-low c = omega (arith, (start (goal.at.overflow_add-low c).In-loop-low).requires.few)
+overflow_add-low c = omega (arith, c.requires.few)
 
 pub loop-low-preserved : goal.loop-low-preserved
-loop-low-preserved c = narrowed-after (start (goal.at.loop-low-preserved c).In-loop-low).requires c.loop-low.invariant (middle (goal.at.loop-low-preserved c).In-loop-low) (omega arith)
+loop-low-preserved c =
+    narrowed-after c.requires c.loop-low.invariant (middle c.loop-low.low c.loop-low.high) (omega arith)
     (sym (found (goal.at.loop-low-preserved c).After-against) ∙ ap side_of c.in-After.is)
 
 pub returns : goal.returns

@@ -1,5 +1,5 @@
 use mathlib.Core.List.{◌++◌}
-use Prim.Native.Nat.{◌+◌, ◌-◌}
+use Prim.Native.Nat.{◌-◌}
 use Rattle.join_shelf.proofs.Turns.{Narrowed}
 use Rattle.join_shelf.proofs.place.Given as goal
 

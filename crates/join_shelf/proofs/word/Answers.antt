@@ -7,19 +7,16 @@ use mathlib.Core.List.{List}
 use Rattle.join_shelf.specs.Shelved.{word_in}
 use Rattle.join_shelf.proofs.Rooms.{part_slice}
 use Rattle.join_shelf.proofs.word.Goals as goal
-use Rattle.join_shelf.proofs.word.Goals.{After-start_of-to, After-wide-s}
+use Rattle.join_shelf.proofs.word.Goals.{After-start_of-to}
 
--- the slot is in use
-in_use : (c : After-wide-s) → c.wide-s.result < c.requires.count
-in_use c =
-    omega (arith, c.wide-s.ensures.0, c.requires.standing.slots _ c.requires.within)
-
--- where it starts and ends
+-- where it starts and ends, as its slot is in use
 ends : (c : After-start_of-to) → (c.start_of-from.result ≤ c.start_of-to.result) × (c.start_of-to.result ≤ 5120)
 ends c =
-    let standing = c.requires.standing in (
-      omega (arith, c.start_of-from.ensures, c.start_of-to.ensures, standing.edges _ (in_use slot)),
-      omega (arith, c.start_of-to.ensures, standing.ends _ (in_use slot)),
+    let standing = c.requires.standing in
+    let used : c.wide-s.result < c.requires.count =
+    omega (arith, c.wide-s.ensures.0, standing.slots _ c.requires.within) in (
+      omega (arith, c.start_of-from.ensures, c.start_of-to.ensures, standing.edges _ used),
+      omega (arith, c.start_of-to.ensures, standing.ends _ used),
     )
 
 pub overflow_add-i : goal.overflow_add-i
