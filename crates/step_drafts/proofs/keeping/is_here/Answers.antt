@@ -1,5 +1,4 @@
 -- `step_drafts::keeping::is_here` meets its contract. Assumes nothing.
-use Prim.Native.Nat.{◌-◌}
 use native.Mathlib.Omega.{arith}
 use Rattle.words.proofs.Exact.{yes-exact, no-exact}
 use Rattle.step_drafts.proofs.Turns.{told-before, told_same, told-after}

@@ -1,5 +1,4 @@
 -- `step_drafts::moving::carry` meets its contract. Assumes nothing.
-use Prim.Native.Nat.{◌-◌}
 use Rattle.step_drafts.proofs.Rooms.{five-small, drew-moved}
 use Rattle.step_drafts.proofs.moving.carry.Goals as goal
 

@@ -1,6 +1,5 @@
 -- `step_drafts::moving::lift` meets its contract. Assumes nothing.
 use mathlib.Core.Path.{◌≡◌, refl}
-use Prim.Native.Nat.{◌-◌}
 use native.Mathlib.Omega.{arith}
 use Rattle.step_drafts.proofs.Carried.{lifted-none, lifted-more}
 use Rattle.step_drafts.proofs.moving.lift.Goals as goal

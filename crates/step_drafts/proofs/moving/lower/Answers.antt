@@ -1,6 +1,5 @@
 -- `step_drafts::moving::lower` meets its contract. Assumes nothing.
 use mathlib.Core.Path.{refl}
-use Prim.Native.Nat.{◌-◌}
 use native.Mathlib.Omega.{arith}
 use Rattle.step_drafts.proofs.Carried.{lowering-none, lowering-more, lowering-all}
 use Rattle.step_drafts.proofs.moving.lower.Goals as goal

@@ -1,6 +1,5 @@
 -- `step_drafts::room::put_two` meets its contract. Assumes nothing.
 use mathlib.Core.Path.{refl}
-use Prim.Native.Nat.{◌-◌}
 use lib.ListN.{length-set}
 use native.Mathlib.Omega.{arith}
 use Rattle.step_drafts.proofs.room.put_two.Goals as goal

@@ -1,6 +1,5 @@
 use mathlib.Core.Path.{◌≡◌}
 use Prim.Native.Nat.{◌+◌, ◌-◌, ◌≤◌}
-use lib.ListN.{length}
 use Rattle.session_meaning.specs.Bytes.{link_count}
 use Rattle.session_meaning.specs.Numbers.{start_of, level_of}
 use Rattle.step_drafts.proofs.Groups.{Narrowing}

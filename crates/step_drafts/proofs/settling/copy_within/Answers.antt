@@ -1,5 +1,4 @@
 -- `step_drafts::settling::copy_within` meets its contract: the bytes passed are copied. Assumes nothing.
-use Prim.Native.Nat.{◌-◌}
 use lib.ListN.{drop, length-take}
 use native.Mathlib.Omega.{arith}
 use borrow.Author.Rules.{rules}

@@ -1,7 +1,7 @@
 -- `step_drafts::settling::cut_by` meets its contract. Assumes nothing.
 use mathlib.Core.Path.{refl, sym, ap, ◌∙◌}
 use mathlib.Core.Logic.{inl, inr}
-use Prim.Native.Nat.{◌-◌, ◌<◌}
+use Prim.Native.Nat.{◌<◌}
 use native.Mathlib.Omega.{arith}
 use lib.Arith.{lt_of_le-ne}
 use Rattle.session_meaning.specs.Bytes.{link_count, link_start}

@@ -1,5 +1,4 @@
 -- `step_drafts::settling::cut_one` meets its contract. Assumes nothing.
-use Prim.Native.Nat.{◌-◌}
 use native.Mathlib.Omega.{arith}
 use Rattle.step_drafts.proofs.Cut.{cut-one}
 use Rattle.step_drafts.proofs.settling.cut_one.Goals as goal

@@ -1,4 +1,3 @@
-use Prim.Native.Nat.{◌-◌}
 use Rattle.step_drafts.proofs.Pushing.{Pushing}
 use Rattle.step_drafts.proofs.settling.push.Given as goal
 

@@ -1,13 +1,8 @@
 -- `step_drafts::settling::settle` meets its contract. Assumes nothing.
-use Prim.Native.Nat.{◌-◌}
 use native.Mathlib.Omega.{arith}
 use Rattle.step_drafts.proofs.Pushing.{same-levelled}
 use Rattle.step_drafts.proofs.Cut.{ready-graded, settle-cutting, settle-levelled, settle-weighable, settled-to}
 use Rattle.step_drafts.proofs.settling.settle.Goals as goal
-use Rattle.step_drafts.proofs.settling.settle.Goals.{After-find, After-starts-1, Start}
-
-abbrev begin : After-find → Start
-begin c = c.before.before.before.before
 
 pub find-requires : goal.find-requires
 find-requires c = ready-graded c.requires
@@ -19,17 +14,17 @@ common_on-sent-requires c = let p = c.push.ensures in
 pub cut-requires : goal.cut-requires
 cut-requires c = let p = c.push.ensures in
     let v = same-levelled p.links c.find.ensures in
-    (settle-cutting (begin (goal.at.cut-requires c).After-starts-1).requires p v c.common_on-sent.ensures, v)
+    (settle-cutting c.requires p v c.common_on-sent.ensures, v)
 
 pub longest-longest-requires : goal.longest-longest-requires
 longest-longest-requires c = let p = c.push.ensures in
     let v = same-levelled p.links c.find.ensures in
     let on = c.common_on-sent.ensures in (
-      settle-levelled (begin (goal.at.longest-longest-requires c).After-starts-1).requires p v on c.cut.ensures,
-      settle-weighable (begin (goal.at.longest-longest-requires c).After-starts-1).requires p v on c.cut.ensures,
+      settle-levelled c.requires p v on c.cut.ensures,
+      settle-weighable c.requires p v on c.cut.ensures,
     )
 
 pub returns : goal.returns
 returns c = let p = c.push.ensures in
     let v = same-levelled p.links c.find.ensures in
-    settled-to (begin (goal.at.returns c).After-starts-1).requires p v c.common_on-sent.ensures c.cut.ensures c.longest-longest.ensures
+    settled-to c.requires p v c.common_on-sent.ensures c.cut.ensures c.longest-longest.ensures

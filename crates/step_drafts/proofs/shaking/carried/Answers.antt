@@ -1,6 +1,5 @@
 -- `step_drafts::shaking::carried` meets its contract. Assumes nothing.
 use mathlib.Core.Path.{sym, ◌∙◌}
-use Prim.Native.Nat.{◌-◌}
 use native.Mathlib.Omega.{arith}
 use borrow.Author.Count.{below_more}
 use Rattle.words.proofs.Exact.{yes-exact, no-exact}

@@ -1,6 +1,5 @@
 -- `step_drafts::shaking::draft_lower` meets its contract. Assumes nothing.
 use mathlib.Core.Path.{refl}
-use Prim.Native.Nat.{◌-◌}
 use native.Mathlib.Omega.{arith}
 use Rattle.step_drafts.proofs.Rooms.{five-small}
 use Rattle.step_drafts.proofs.Shaken.{piece-fits, lower-more}

@@ -1,4 +1,3 @@
-use Prim.Native.Nat.{◌-◌}
 use Rattle.meaning.specs.Answers.{links_cap}
 use Rattle.step_drafts.specs.Drafts.{drafts_in}
 use Rattle.step_drafts.proofs.Shaken.{Shaking}

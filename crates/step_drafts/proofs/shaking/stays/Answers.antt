@@ -1,6 +1,6 @@
 -- `step_drafts::shaking::stays` meets its contract. Assumes nothing.
 use mathlib.Core.Path.{sym, subst}
-use Prim.Native.Nat.{ℕ, ◌-◌, ◌<◌}
+use Prim.Native.Nat.{ℕ, ◌<◌}
 use native.Mathlib.Omega.{arith}
 use Rattle.session_meaning.specs.Bytes.{link_at}
 use Rattle.words.proofs.Exact.{no-exact, exact-as}
