@@ -1,6 +1,6 @@
 -- `step::write::write_places` meets its contract: the places passed are written. Assumes nothing.
 use mathlib.Core.Path.{◌≡◌}
-use Prim.Native.Nat.{◌-◌, ◌<◌}
+use Prim.Native.Nat.{◌<◌}
 use native.Mathlib.Omega.{arith}
 use Rattle.session_meaning.proofs.Held.{tidy-same}
 use Rattle.step.proofs.Rewritten.{written_none, written-more}

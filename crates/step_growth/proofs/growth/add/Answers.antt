@@ -1,5 +1,4 @@
 -- `step_growth::growth::add` meets its contract. Assumes nothing.
-use Prim.Native.Nat.{◌-◌}
 use Rattle.step_growth.proofs.Gathering.{gathered-rises, gathered-same, gathered-other, gathered-new}
 use Rattle.step_growth.proofs.Gathering.{gathered-full}
 use Rattle.step_growth.proofs.Gathering.{grown-made, grown-full, full-more}
@@ -7,7 +6,7 @@ use Rattle.step_growth.proofs.growth.add.Goals as goal
 
 pub put-requires : goal.put-requires
 put-requires c = let g = c.requires.some_grown.0.1.made _ c.in-Made.is in
-record {drafted = (g.drafts, gathered-rises g, c.requires.some_grown.1); c_len_bound = c.requires.c_len_bound; }
+    record { drafted = (g.drafts, gathered-rises g, c.requires.some_grown.1); c_len_bound = c.requires.c_len_bound }
 
 pub returns-in-Full : goal.returns-in-Full
 returns-in-Full c = λ made g. full-more _ c.in-Full.is g

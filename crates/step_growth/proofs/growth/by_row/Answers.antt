@@ -12,10 +12,16 @@ fitted : (c : Then-fits)
     ≡ by_class c.args.file.now c.args.session.now (meant c.args.class) c.args.i c.args.r
 fitted c =
     class-fits c.args.file.now c.args.session.now (meant c.args.class) c.args.i c.args.r
-    c.fits2.ensures c.if-fits.true
+    c.fits.ensures c.if-fits.true
 
 pub follow-requires : goal.follow-requires
-follow-requires c = record { usable = c.requires.usable; some_grown = (c.requires.some_grown.0, fitting-as c.requires.some_grown.1 (sym (fitted (goal.at.follow-requires c).Then-fits))) }
+follow-requires c = record {
+  usable = c.requires.usable;
+  some_grown = (
+    c.requires.some_grown.0,
+    fitting-as c.requires.some_grown.1 (sym (fitted (goal.at.follow-requires c).Then-fits)),
+  );
+}
 
 pub returns-then-fits : goal.returns-then-fits
 returns-then-fits c = gathers-as c.follow.ensures (fitted (goal.at.returns-then-fits c).Then-fits)
@@ -23,4 +29,4 @@ returns-then-fits c = gathers-as c.follow.ensures (fitted (goal.at.returns-then-
 pub returns : goal.returns
 returns c = gathers-as gathers-none
     (class-not c.args.file.now c.args.session.now (meant c.args.class) c.args.i c.args.r
-    c.fits2.ensures c.if-fits.false)
+    c.fits.ensures c.if-fits.false)

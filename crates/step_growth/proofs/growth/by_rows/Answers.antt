@@ -1,6 +1,6 @@
 -- `step_growth::growth::by_rows` meets its contract: what the rows passed give was made. Assumes nothing.
 use mathlib.Core.Path.{◌≡◌, sym}
-use Prim.Native.Nat.{◌-◌, ◌<◌}
+use Prim.Native.Nat.{◌<◌}
 use native.Mathlib.Omega.{arith}
 use Rattle.table.specs.File.{row_count, row_at}
 use Rattle.table.specs.Calls.{meant}
@@ -13,7 +13,9 @@ use Rattle.step_growth.proofs.growth.by_rows.Goals as goal
 use Rattle.step_growth.proofs.growth.by_rows.Goals.{Else-row_symbol-wide, In-loop-r}
 
 pub returns-then-level-depth : goal.returns-then-level-depth
-returns-then-level-depth c = gathers-as gathers-none (rows_none c.args.file.now c.args.session.now c.args.symbol c.args.i (λ e. omega arith))
+returns-then-level-depth c =
+    gathers-as gathers-none
+    (rows_none c.args.file.now c.args.session.now c.args.symbol c.args.i (λ e. omega arith))
 
 pub loop-r-init : goal.loop-r-init
 loop-r-init c = let first = c.first_row-r.ensures in (
@@ -53,14 +55,25 @@ taken c =
     (omega arith) (omega arith)
 
 pub by_row-grown-requires : goal.by_row-grown-requires
-by_row-grown-requires c = let l = within (goal.at.by_row-grown-requires c).In-loop-r in
-    let fitting = rows-fitting c.args.file.now c.args.session.now c.args.symbol c.args.i c.loop-r.r l c.requires.some_grown.1 in record { usable = (c.requires.usable.0, c.requires.usable.1, l); some_grown = (passing-ready c.loop-r.invariant.2 c.requires.some_grown.0, fitting-as fitting (sym (taken (goal.at.by_row-grown-requires c).Else-row_symbol-wide))) }
+by_row-grown-requires c =
+    let l = within (goal.at.by_row-grown-requires c).In-loop-r in
+    let fitting =
+    rows-fitting c.args.file.now c.args.session.now c.args.symbol c.args.i c.loop-r.r l c.requires.some_grown.1 in
+    record {
+      usable = (c.requires.usable.0, c.requires.usable.1, l);
+      some_grown = (
+        passing-ready c.loop-r.invariant.2 c.requires.some_grown.0,
+        fitting-as fitting (sym (taken (goal.at.by_row-grown-requires c).Else-row_symbol-wide)),
+      );
+    }
 
 pub loop-r-preserved : goal.loop-r-preserved
-loop-r-preserved c = let made = gathers-as c.by_row-grown.ensures (taken (goal.at.loop-r-preserved c).Else-row_symbol-wide) in
+loop-r-preserved c =
+    let made = gathers-as c.by_row-grown.ensures (taken (goal.at.loop-r-preserved c).Else-row_symbol-wide) in
     let passed = c.loop-r.invariant.2 in
     (omega arith, omega arith, passing-next passed made)
 
 pub returns : goal.returns
-returns c = rows_end c.args.file.now c.args.session.now c.args.symbol c.args.i c.state-state.ensures.0 c.loop-r.invariant.2
+returns c =
+    rows_end c.args.file.now c.args.session.now c.args.symbol c.args.i c.state-state.ensures.0 c.loop-r.invariant.2
     (omega arith) (λ k l m. absurd (omega arith))

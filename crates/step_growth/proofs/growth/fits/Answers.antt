@@ -12,7 +12,9 @@ use Rattle.step_growth.proofs.growth.fits.Goals as goal
 use Rattle.step_growth.proofs.growth.fits.Goals.{Else-state-row_from}
 
 pub returns-then-state-row_from : goal.returns-then-state-row_from
-returns-then-state-row_from c = fits_not (meant c.args.class) (row_at c.args.file.now c.args.r) (link_at c.args.session.now c.args.i) (λ e. omega arith)
+returns-then-state-row_from c =
+    fits_not (meant c.args.class) (row_at c.args.file.now c.args.r) (link_at c.args.session.now c.args.i)
+    (λ e. omega arith)
 
 -- what is left is said by the class
 from-here : (c : Else-state-row_from) (k : Class)
@@ -29,8 +31,10 @@ pub returns-in-Call : goal.returns-in-Call
 returns-in-Call c = rw c.in-Call.is (from-here (goal.at.returns-in-Call c).Else-state-row_from call)
 
 pub returns-in-Return : goal.returns-in-Return
-returns-in-Return c = rw c.in-Return.is
-    ((λ i. eqb (c.marker.ensures.0 i) (c.row_marker.ensures i)) ∙ from-here (goal.at.returns-in-Return c).Else-state-row_from return)
+returns-in-Return c =
+    rw c.in-Return.is
+    ((λ i. eqb (c.marker.ensures.0 i) (c.row_marker.ensures i))
+    ∙ from-here (goal.at.returns-in-Return c).Else-state-row_from return)
 
 pub returns-in-Internal : goal.returns-in-Internal
 returns-in-Internal c = rw c.in-Internal.is (from-here (goal.at.returns-in-Internal c).Else-state-row_from internal)

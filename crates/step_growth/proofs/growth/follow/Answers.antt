@@ -3,13 +3,22 @@ use Rattle.step_growth.proofs.Gathering.{gathers-none}
 use Rattle.step_growth.proofs.growth.follow.Goals as goal
 
 pub follow_call-requires : goal.follow_call-requires
-follow_call-requires c = record { usable = c.requires.usable; some_grown = (c.requires.some_grown.0, rw c.in-Call.is at c.requires.some_grown.1) }
+follow_call-requires c = record {
+  usable = c.requires.usable;
+  some_grown = (c.requires.some_grown.0, rw c.in-Call.is at c.requires.some_grown.1);
+}
 
 pub follow_return-requires : goal.follow_return-requires
-follow_return-requires c = record { usable = c.requires.usable; some_grown = (c.requires.some_grown.0, rw c.in-Return.is at c.requires.some_grown.1) }
+follow_return-requires c = record {
+  usable = c.requires.usable;
+  some_grown = (c.requires.some_grown.0, rw c.in-Return.is at c.requires.some_grown.1);
+}
 
 pub follow_internal-requires : goal.follow_internal-requires
-follow_internal-requires c = record { usable = c.requires.usable; some_grown = (c.requires.some_grown.0, rw c.in-Internal.is at c.requires.some_grown.1) }
+follow_internal-requires c = record {
+  usable = c.requires.usable;
+  some_grown = (c.requires.some_grown.0, rw c.in-Internal.is at c.requires.some_grown.1);
+}
 
 pub returns-in-Unused : goal.returns-in-Unused
 returns-in-Unused c = rw c.in-Unused.is gathers-none

@@ -1,5 +1,4 @@
 -- `step_growth::growth::follow_return` meets its contract: what the links passed give was made. Assumes nothing.
-use Prim.Native.Nat.{◌-◌}
 use native.Mathlib.Omega.{arith}
 use Rattle.step_growth.proofs.Gathering.{passing-start, passing-ready, passing-next}
 use Rattle.step_growth.proofs.Following.{return-fitting, return-end, return-stop}
@@ -9,8 +8,9 @@ pub loop-j-init : goal.loop-j-init
 loop-j-init c = (omega arith, passing-start)
 
 pub returns-then-level : goal.returns-then-level
-returns-then-level c = return-stop c.args.file.now c.args.session.now c.args.i c.args.r c.requires.usable.0 c.loop-j.invariant.1 (omega arith)
-    (omega arith)
+returns-then-level c =
+    return-stop c.args.file.now c.args.session.now c.args.i c.args.r c.requires.usable.0 c.loop-j.invariant.1
+    (omega arith) (omega arith)
 
 pub uncover-grown-requires : goal.uncover-grown-requires
 uncover-grown-requires c = let loop = c.loop-j in record {

@@ -1,6 +1,5 @@
 -- `step_growth::growth::grow` meets its contract: what the links passed give was made. Assumes nothing.
 use mathlib.Core.List.{[]}
-use Prim.Native.Nat.{◌-◌}
 use native.Mathlib.Omega.{arith}
 use Rattle.step_growth.proofs.Gathering.{passing-start, passing-ready, passing-next}
 use Rattle.step_growth.proofs.Following.{grow-fitting, grow-end}

@@ -1,5 +1,4 @@
 -- `step_growth::growth::moved` meets its contract. Assumes nothing.
-use Prim.Native.Nat.{◌-◌}
 use Rattle.step_growth.proofs.Following.{made-moved}
 use Rattle.step_growth.proofs.growth.moved.Goals as goal
 

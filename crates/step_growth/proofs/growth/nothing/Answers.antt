@@ -1,5 +1,4 @@
 -- `step_growth::growth::nothing` meets its contract. Assumes nothing.
-use Prim.Native.Nat.{◌-◌}
 use Rattle.step_growth.proofs.Gathering.{grown-none}
 use Rattle.step_growth.proofs.growth.nothing.Goals as goal
 

@@ -44,7 +44,7 @@ add-requires c = let lower = ap length c.piece-lower.ensures in
     let upper = ap length c.piece-upper.ensures in
     let word = ap length c.row_word-word.ensures in
     let room = simp length-append at (fitting-only (fitting (goal.at.add-requires c).Else-seat-foot)).1 in
-record {some_grown = (c.requires.some_grown.0, c.moved-link.ensures.clean); c_len_bound = omega arith; }
+    record { some_grown = (c.requires.some_grown.0, c.moved-link.ensures.clean); c_len_bound = omega arith }
 
 pub returns : goal.returns
 returns c = gathers-as
