@@ -1,7 +1,6 @@
 -- `table::read::first_row` meets its contract: the row looked for lies from low to high. Assumes nothing.
 use mathlib.Core.Path.{ap}
 use mathlib.Core.Bool.{not}
-use Prim.Native.Nat.{◌-◌}
 use native.Mathlib.Omega.{arith}
 use Rattle.words.proofs.Exact.{denied}
 use Rattle.table.proofs.Symbols.{between-all, between-up, between-down, between-one}

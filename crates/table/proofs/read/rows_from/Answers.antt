@@ -1,6 +1,5 @@
 -- `table::read::rows_from` meets its contract: all rows passed stand before those of the next state. Assumes nothing.
 use mathlib.Core.Path.{◌≡◌}
-use Prim.Native.Nat.{◌-◌}
 use native.Mathlib.Omega.{arith}
 use borrow.Author.Count.{below_more}
 use Rattle.table.specs.File.{row_at}

@@ -1,7 +1,6 @@
 -- `table_check::rows::rows` meets its contract: rows up to i fit and rise, and last is the head of i. Assumes nothing.
 use mathlib.Core.Path.{ap}
 use mathlib.Core.Bool.{not}
-use Prim.Native.Nat.{◌-◌}
 use native.Mathlib.Omega.{arith}
 use Rattle.words.proofs.Exact.{yes-exact, no-exact, denied, granted}
 use Rattle.table.proofs.Passed.{passed_start, passed-next, passed-all, none_passed, word-in}

@@ -1,6 +1,5 @@
 -- `words::together` meets its contract: what is left from index i on, taken together with what was passed, makes what
 -- the whole makes. Assumes nothing.
-use Prim.Native.Nat.{◌-◌}
 use native.Mathlib.Omega.{arith}
 use Rattle.words.proofs.Below.{passed_start, passed-next, passed-end}
 use Rattle.words.proofs.all_bytes.together.Goals as goal

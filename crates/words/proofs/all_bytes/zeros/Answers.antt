@@ -1,7 +1,6 @@
 -- `words::zeros` meets its contract: the bytes passed are 0. Assumes nothing.
 use mathlib.Core.Path.{ap}
 use mathlib.Core.Bool.{not}
-use Prim.Native.Nat.{◌-◌}
 use native.Mathlib.Omega.{arith}
 use Rattle.words.proofs.Exact.{no-exact, denied, granted}
 use Rattle.words.proofs.Cleared.{cleared-start, cleared-next, cleared-not, cleared-end}

@@ -1,5 +1,4 @@
 -- `words::common_length` meets its contract: the words agree below i, and i grows. Assumes nothing.
-use Prim.Native.Nat.{◌-◌}
 use native.Mathlib.Omega.{arith}
 use Rattle.words.proofs.Agreed.{agreed-start, agreed-next, agreed-differ, agreed-left, agreed-right}
 use Rattle.words.proofs.beginning.common_length.Goals as goal

@@ -1,5 +1,4 @@
 -- `words::compare` meets its contract: what is left from index i on decides, and i grows. Assumes nothing.
-use Prim.Native.Nat.{◌-◌}
 use native.Mathlib.Omega.{arith}
 use Rattle.words.proofs.Calls.{undecided-start, side-less, side-more, undecided-next, side_left}
 use Rattle.words.proofs.Calls.{side_right, side-both}

@@ -1,7 +1,7 @@
 -- `words::same` meets its contract: what is known of the bytes below i. Assumes nothing.
 use mathlib.Core.Path.{sym, ap, subst}
 use mathlib.Core.Bool.{Bool}
-use Prim.Native.Nat.{◌+◌, ◌-◌}
+use Prim.Native.Nat.{◌+◌}
 use lib.ListN.{length}
 use native.Mathlib.Omega.{arith}
 use Rattle.words.proofs.Exact.{no-exact}
@@ -23,7 +23,7 @@ loop-i-preserved c = let so_far = c.loop-i.invariant.2 in
       omega arith,
       omega arith,
       elim c.if-a-i.branch [
-          then-a-i w ↦ subst (λ (s : Bool). Equal a b s (i + 1)) (sym w.same-is) (equal-differ so_far w.if-a-i.true)
+        | then-a-i w ↦ subst (λ (s : Bool). Equal a b s (i + 1)) (sym w.same-is) (equal-differ so_far w.if-a-i.true)
         | else-a-i w ↦ subst (λ (s : Bool). Equal a b s (i + 1)) (sym w.same-is) (equal_next so_far w.if-a-i.false)
       ],
     )

@@ -1,5 +1,5 @@
 -- `words::writing::clear` meets its contract: it is to copy zeros. Assumes nothing.
-use Prim.Native.Nat.{ℕ, ◌-◌}
+use Prim.Native.Nat.{ℕ}
 use mathlib.Core.Path.{◌≡◌, sym}
 use lib.ListN.{length, replicate, length-replicate, get_or-replicate}
 use native.Mathlib.Omega.{arith}

@@ -1,5 +1,4 @@
 -- `words::writing::copy` meets its contract. Assumes nothing.
-use Prim.Native.Nat.{◌-◌}
 use mathlib.Core.Path.{refl}
 use native.Mathlib.Omega.{arith}
 use Rattle.words.proofs.Pasted.{pasting-none, pasting-more, pasting-all}

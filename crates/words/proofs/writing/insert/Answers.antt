@@ -1,6 +1,5 @@
 -- `words::writing::insert` meets its contract. Assumes nothing.
 use mathlib.Core.Path.{◌∙◌}
-use Prim.Native.Nat.{◌-◌}
 use native.Mathlib.Omega.{arith}
 use lib.ListN.{length-set}
 use Rattle.words.proofs.Shifted.{shifted_none, shifted-more, shifted-inserted}
