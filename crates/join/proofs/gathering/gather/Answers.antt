@@ -1,6 +1,5 @@
 -- `join::gathering::gather` meets its contract. Assumes nothing.
 use mathlib.Core.List.{[]}
-use Prim.Native.Nat.{◌-◌}
 use native.Mathlib.Omega.{arith}
 use Rattle.table.specs.File.{row_count}
 use Rattle.join.proofs.Passing.{passing-start, passing-ready, passing-next, passing-end}

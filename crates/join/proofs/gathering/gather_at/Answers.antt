@@ -19,8 +19,6 @@ use Rattle.join.proofs.gathering.gather_at.Goals.{After-planned}
 
 -- the class of the row's symbol, and the plan that it gives
 module _ (c : After-planned) where
-  
-
   abbrev class-of : Class
   class-of = let a = c.args in (table_of a.first.now).class (row_at a.first.now a.at.row).symbol
 
@@ -41,8 +39,15 @@ row_word-read_word-requires c = let at = c.requires.at in
     good-word _ _ at.small.hops.first at.row
 
 pub read-requires : goal.read-requires
-read-requires c = let read = reading (goal.at.read-requires c).After-planned _ c.in-Read.is in
-    let is = c.row_word-read_word.ensures in record {reads = row_reads c.args.first.now c.args.second.now c.args.at.row _ is _ _ c.requires.at (omega arith); ranked = read.ranked; suited = row-suited c.args.first.now c.args.second.now c.args.at.row _ is _ 0 c.args.tape.now read.suited; some_shelved = c.requires.some_shelved; }
+read-requires c =
+    let read = reading (goal.at.read-requires c).After-planned _ c.in-Read.is in
+    let is = c.row_word-read_word.ensures in
+    record {
+      reads = row_reads c.args.first.now c.args.second.now c.args.at.row _ is _ _ c.requires.at (omega arith);
+      ranked = read.ranked;
+      suited = row-suited c.args.first.now c.args.second.now c.args.at.row _ is _ 0 c.args.tape.now read.suited;
+      some_shelved = c.requires.some_shelved;
+    }
 
 -- all marks stand where a return row is read from them
 from-marks : (c : After-planned) (count : ℕ) → c.planned.result ≡ FromMarks count
@@ -51,8 +56,13 @@ from-marks c count e =
     plan-marks c.args.first.now c.args.second.now c.args.at.row c.args.at.state c.args.wanted (class-of c) (is c e)
 
 pub return_rows-requires : goal.return_rows-requires
-return_rows-requires c = let both = from-marks (goal.at.return_rows-requires c).After-planned _ c.in-FromMarks.is in
-record {at = (c.requires.at, both.1); all_marks = marked-rows both.0 c.requires.marked; some_shelved = c.requires.some_shelved; }
+return_rows-requires c =
+    let both = from-marks (goal.at.return_rows-requires c).After-planned _ c.in-FromMarks.is in
+    record {
+      at = (c.requires.at, both.1);
+      all_marks = marked-rows both.0 c.requires.marked;
+      some_shelved = c.requires.some_shelved;
+    }
 
 pub returns-in-Skip : goal.returns-in-Skip
 returns-in-Skip c = gathers-as gathers-none

@@ -1,5 +1,4 @@
 -- `join::gathering::gather_row` meets its contract. Assumes nothing.
-use Prim.Native.Nat.{◌-◌}
 use native.Mathlib.Omega.{arith}
 use Rattle.table.specs.File.{table_of}
 use Rattle.join.proofs.Passing.{passing-start, passing-ready, passing-next, passing-end}

@@ -15,21 +15,19 @@ use Rattle.join.proofs.gathering.return_row.Goals.{After-wide, After-word-key}
 
 -- the key of the mark, how long it is, and its first byte
 abbrev key_of : After-word-key → Word
-key_of c =
-    let a = c.before.before.before.args in
-    word_at a.marks.now a.i
+key_of c = word_at c.args.marks.now c.args.i
 
 long : (c : After-word-key) → (0 < length c.word-key.result.now) × (length c.word-key.result.now ≤ 17)
 long c =
     rw c.word-key.ensures (key-long c.requires.mark_here.all c.requires.at.small c.requires.mark_here.within)
 
 abbrev left-of : After-word-key → Word
-left-of c = let w : Word = c.word.result.now in take (length w - 1) (drop 1 w)
+left-of c = let w : Word = c.word-key.result.now in take (length w - 1) (drop 1 w)
 
 left-long : (c : After-word-key) → length (left-of c) ≤ 16
 left-long c = simp length-take (omega (arith, (long c).1))
 
-head-is : (c : After-wide) → c.wide.result ≡ get_or (key_of c.before.before) 0 0
+head-is : (c : After-wide) → c.wide.result ≡ get_or (word_at c.args.marks.now c.args.i) 0 0
 head-is c = c.wide.ensures.0 ∙ ap (λ (w : Word). get_or w 0 0) c.word-key.ensures
 
 pub bounds-key-0 : goal.bounds-key-0
@@ -59,7 +57,7 @@ read-requires c = record {
   ranked = rw c.close_goal-goal.ensures tt;
   suited = rw c.close_goal-goal.ensures
       (row-suited c.args.first.now c.args.second.now c.args.at.row _ c.row_word-read_word.ensures _
-      (length (left-of (goal.at.read-requires c).After-word-key)) c.copy.new.0 (suited-close c.requires.at _ _));
+      (length (left-of (goal.at.read-requires c).After-word-key)) c.copy.new.to (suited-close c.requires.at _ _));
   some_shelved = c.requires.some_shelved;
 }
 
@@ -67,7 +65,7 @@ pub returns : goal.returns
 returns c = let left_is = ap (λ (w : Word). take (length w - 1) (drop 1 w)) c.word-key.ensures in
     gathers-as c.read.ensures.gathers
     (row-found c.args.first.now c.args.second.now c.args.at.row _ c.row_word-read_word.ensures _
-    (length (left-of (goal.at.returns c).After-word-key)) c.copy.new.0 _ _
+    (length (left-of (goal.at.returns c).After-word-key)) c.copy.new.to _ _
     ∙ return-same c.requires.mark_here.all c.args.at.row c.args.at.state c.requires.mark_here.within
     (omega (arith, head-is (goal.at.returns c).After-wide, c.row_marker.ensures, c.if-wide-row_marker.false))
     c.close_goal-goal.ensures

@@ -1,5 +1,4 @@
 -- `join::gathering::return_rows` meets its contract. Assumes nothing.
-use Prim.Native.Nat.{◌-◌}
 use native.Mathlib.Omega.{arith}
 use Rattle.join.proofs.Passing.{passing-start, passing-ready, passing-next, passing-end}
 use Rattle.join.proofs.FromMarks.{returns-all}

@@ -1,6 +1,5 @@
 -- `join::hops::long_rows` meets its contract: the keys passed are not long. Assumes nothing.
 use mathlib.Core.Path.{ap}
-use Prim.Native.Nat.{◌-◌}
 use native.Mathlib.Omega.{arith}
 use lib.ListN.{length}
 use borrow.Author.Count.{below_more}
