@@ -1,6 +1,5 @@
 -- `join_nesting::after_word` meets its contract. Assumes nothing.
 use mathlib.Core.Path.{sym, ap, ◌∙◌}
-use Prim.Native.Nat.{◌-◌}
 use native.Mathlib.Omega.{arith}
 use Rattle.join_nesting.specs.Nesting.{level_of}
 use Rattle.join_nesting.proofs.Levels.{read-start, read_next, read-broken, read-end}

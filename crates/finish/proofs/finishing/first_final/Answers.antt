@@ -1,7 +1,5 @@
 -- `finish::finishing::first_final` meets its contract: the links passed have other states. Assumes nothing.
 use mathlib.Core.Path.{◌≡◌, sym, ap, ◌∙◌}
-use mathlib.Core.Bool.{false}
-use Prim.Native.Nat.{◌-◌}
 use native.Mathlib.Omega.{arith}
 use borrow.Author.Count.{below_more}
 use Rattle.sets.specs.Sets.{is_in}

@@ -1,6 +1,6 @@
 -- `links::levels::find` meets its contract: the links before i are looked at. Assumes nothing.
 use mathlib.Core.Path.{ap}
-use Prim.Native.Nat.{ℕ, ◌+◌, ◌-◌, ◌≤◌}
+use Prim.Native.Nat.{ℕ, ◌+◌, ◌≤◌}
 use native.Mathlib.Omega.{arith}
 use Rattle.links.proofs.Levelled.{found-start, found-next, found_all}
 use Rattle.links.proofs.levels.find.Goals as goal

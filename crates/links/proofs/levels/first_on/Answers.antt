@@ -1,5 +1,5 @@
 -- `links::levels::first_on` meets its contract. Assumes nothing.
-use Prim.Native.Nat.{◌+◌, ◌-◌}
+use Prim.Native.Nat.{◌+◌}
 use native.Mathlib.Omega.{arith}
 use borrow.Author.Count.{below_more}
 use Rattle.session_meaning.specs.Numbers.{level_of}

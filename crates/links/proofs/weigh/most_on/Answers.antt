@@ -1,5 +1,5 @@
 -- `links::weigh::most_on` meets its contract: the links before j are looked at. Assumes nothing.
-use Prim.Native.Nat.{◌+◌, ◌-◌}
+use Prim.Native.Nat.{◌+◌}
 use native.Mathlib.Omega.{arith}
 use Rattle.session_meaning.specs.Numbers.{level_of}
 use Rattle.links.proofs.Weighed.{sought-past, sought-met}
@@ -35,7 +35,7 @@ loop-j-preserved c = let inv = c.loop-j.invariant in
       inv.2,
       omega arith,
       elim c.if-foot-below.branch [
-          then-foot-below w ↦ sought-met inv.4 (omega arith) (omega arith) weighed (omega arith)
+        | then-foot-below w ↦ sought-met inv.4 (omega arith) (omega arith) weighed (omega arith)
         | else-foot-below w ↦ sought-past inv.4 (omega arith) (λ e. omega arith) (omega arith)
       ],
     )
