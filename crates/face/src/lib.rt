@@ -1,5 +1,7 @@
-// The calls for programs in C and Rust: each answers the scope's number, and what else a call gives is written where
-// the caller says.
+// The calls for programs in C and Rust, which `face_c` exports: each answers the scope's number, and what else a call
+// gives is written where the caller says.
+#![tactic(auto)]
+
 ghost use Rattle.std.specs.Prelude.{◌≡◌};
 ghost use Rattle.table.specs.Calls.{Judged};
 ghost use Rattle.session.specs.Calls.{BeginsSession};
@@ -12,16 +14,14 @@ use numbers::number_of;
 use session_bytes::SIZE;
 use step::WORK;
 
-#[unsafe(no_mangle)]
-pub extern "C" fn jermanuts_check(file: &[u8]) -> u32
+pub fn jermanuts_check(file: &[u8]) -> u32
     ensures { Judged file.now result }
 {
     let number = table_check::check(file).number;
     number_of(number)
 }
 
-#[unsafe(no_mangle)]
-pub extern "C" fn jermanuts_begin(file: &[u8], session: &mut [u8; SIZE], states: &mut u32) -> u32
+pub fn jermanuts_begin(file: &[u8], session: &mut [u8; SIZE], states: &mut u32) -> u32
     ensures { BeginsSession file.now session.old result states.new session.new }
 {
     let answer = session::begin(file, session);
@@ -30,8 +30,7 @@ pub extern "C" fn jermanuts_begin(file: &[u8], session: &mut [u8; SIZE], states:
     number_of(number)
 }
 
-#[unsafe(no_mangle)]
-pub extern "C" fn jermanuts_step(
+pub fn jermanuts_step(
     file: &[u8],
     session: &mut [u8; SIZE],
     symbol: u8,
@@ -47,8 +46,7 @@ pub extern "C" fn jermanuts_step(
     number_of(number)
 }
 
-#[unsafe(no_mangle)]
-pub extern "C" fn jermanuts_step_in(
+pub fn jermanuts_step_in(
     file: &[u8],
     session: &mut [u8; SIZE],
     symbol: u8,
@@ -65,13 +63,7 @@ pub extern "C" fn jermanuts_step_in(
     number_of(number)
 }
 
-#[unsafe(no_mangle)]
-pub extern "C" fn jermanuts_finish(
-    file: &[u8],
-    session: &[u8; SIZE],
-    out: &mut [u8],
-    count: &mut usize,
-) -> u32
+pub fn jermanuts_finish(file: &[u8], session: &[u8; SIZE], out: &mut [u8], count: &mut usize) -> u32
     ensures { Finished file.now session.now out.old result count.new
         out.new }
 {
@@ -81,8 +73,7 @@ pub extern "C" fn jermanuts_finish(
     number_of(number)
 }
 
-#[unsafe(no_mangle)]
-pub extern "C" fn jermanuts_join(
+pub fn jermanuts_join(
     first: &[u8],
     second: &[u8],
     out: &mut [u8],
@@ -99,8 +90,7 @@ pub extern "C" fn jermanuts_join(
     number_of(number)
 }
 
-#[unsafe(no_mangle)]
-pub extern "C" fn jermanuts_join_in(
+pub fn jermanuts_join_in(
     first: &[u8],
     second: &[u8],
     out: &mut [u8],
