@@ -1,6 +1,6 @@
 -- A session at depth 0: what its runs that accept have waiting, link by link. Assumes nothing.
 use mathlib.Core.Path.{◌≡◌, refl, sym, ◌∙◌, ap}
-use mathlib.Core.Bool.{true, false, false≢true}
+use mathlib.Core.Bool.{true, false≢true}
 use mathlib.Core.List.Memᴰ
 use mathlib.Core.List.{List}
 use Prim.Native.Nat.{ℕ}

@@ -1,5 +1,7 @@
 // The file of the joined table, part after part. Each function puts its part from a place on, where there is room for
 // it, and answers the place after it.
+#![tactic(auto)]
+
 ghost use Rattle.std.specs.Prelude.{◌≡◌, [], ◌∷◌, ◌≤◌, length};
 ghost use Rattle.words.specs.Calls.{Room, Appended};
 ghost use Rattle.meaning.specs.Parts.{head_size};

@@ -1,5 +1,8 @@
 // Whether the words of one table nest for the classes of another. A call row's word may leave headers open for its
 // partners, so that their words are read from where it ended.
+
+#![tactic(auto)]
+
 ghost use Rattle.std.specs.Prelude.{◌≡◌, ◌<◌, ◌≤◌, length};
 ghost use Rattle.words.specs.Lists.{Exact};
 ghost use Rattle.meaning.specs.Table.{unused};

@@ -1,5 +1,7 @@
 // A shelf: words, each once and in rising byte order, in a room that the caller lends. A word comes in two parts, so
 // that nobody has to join them first.
+#![tactic(auto)]
+
 ghost use Rattle.std.specs.Prelude.{◌≡◌, ◌∷◌, [], ◌++◌, ◌+◌, ◌*◌, ◌≤◌, ◌<◌, length};
 ghost use Rattle.words.specs.Lists.{Exact};
 ghost use Rattle.words.specs.Order.{side};

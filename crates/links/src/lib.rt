@@ -1,5 +1,8 @@
 // A head: depth, count, 64 links of five bytes and 64 lengths of two, as a session and the room of a step begin. Nobody
 // else counts its bytes. Where the pieces stand is not known here.
+
+#![tactic(auto)]
+
 pub mod levels;
 pub mod weigh;
 mod writing;

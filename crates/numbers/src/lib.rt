@@ -1,4 +1,7 @@
 // The table of numbers, once: document 01's names, the number of each, and what a call answers.
+
+#![tactic(auto)]
+
 ghost use Rattle.std.specs.Prelude.{◌≡◌};
 ghost use Rattle.words.specs.Lists.{Exact};
 ghost use Rattle.numbers.specs.Numbers.{number_of};

@@ -1,5 +1,7 @@
 // Sessions: which bytes are sound for a table, and those to begin with. Nothing outside the lent bytes is read or
 // written.
+#![tactic(auto)]
+
 mod fresh;
 mod rules;
 

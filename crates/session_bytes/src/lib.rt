@@ -1,4 +1,7 @@
 // What stands where in a session's bytes behind its head, of which `links` knows. Nobody else counts them.
+
+#![tactic(auto)]
+
 ghost use Rattle.std.specs.Prelude.{◌≡◌, ◌+◌, ◌≤◌, ◌<◌, [], length};
 ghost use Rattle.words.specs.Lists.{Exact};
 ghost use Rattle.words.specs.LittleEndian.{byte};

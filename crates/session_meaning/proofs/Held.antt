@@ -1,6 +1,6 @@
 -- What is held at the places of links and pieces: written there, kept beside it, and all together. Assumes nothing.
 use mathlib.Core.Path.{◌≡◌, refl, sym, ◌∙◌}
-use mathlib.Core.Logic.{◌⊎◌, inl, inr, ⊎_elim}
+use mathlib.Core.Logic.{◌⊎◌, inl, inr}
 use mathlib.Core.List.{List, [], ◌∷◌}
 use Prim.Native.Nat.{ℕ, zero, suc, ◌+◌, ◌-◌, ◌*◌, ◌/◌, ◌%◌, ◌<◌, ◌≤◌}
 use native.Mathlib.Omega.{arith}
@@ -13,7 +13,7 @@ use Rattle.words.specs.LittleEndian.{byte}
 use Rattle.words.proofs.Lists.{below_or}
 use Rattle.meaning.specs.Answers.{links_cap}
 use Rattle.session_meaning.specs.Sessions.{Session}
-use Rattle.session_meaning.specs.Bytes.{link_start, length_start, piece_start, piece_room, size, link_count, length_at}
+use Rattle.session_meaning.specs.Bytes.{link_start, length_start, piece_start, size, link_count, length_at}
 use Rattle.session_meaning.specs.Bytes.{Kept}
 use Rattle.session_meaning.specs.Bytes.{no_entry, entry_of, link_bytes}
 use Rattle.session_meaning.specs.Bytes.{byte_of, bytes_of}

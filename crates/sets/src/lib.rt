@@ -1,5 +1,8 @@
 // Sets of states, each a number whose bit i says whether state i is a member. A caller visits the members in rising
 // order by `lowest` and `without_lowest`, until the set is 0.
+
+#![tactic(auto)]
+
 ghost use Rattle.std.specs.Prelude.{◌≡◌, ◌∷◌, ◌<◌, ◌≤◌, ◌-◌, length, drop, get_or};
 ghost use Rattle.sets.specs.Sets.{is_in, members};
 

@@ -1,5 +1,7 @@
 // The drafts of a step, in a lent room that begins as a session does: links with pieces, each put once at its place,
 // shaken, and settled. What else the room holds is nobody's business.
+#![tactic(auto)]
+
 mod keeping;
 mod moving;
 mod room;

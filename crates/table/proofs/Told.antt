@@ -8,7 +8,6 @@ use native.Mathlib.Omega.{arith}
 use lib.Dec.{eqb}
 use borrow.Author.Tests.{eqb-true, eqb-false}
 use mathlib.Mathlib.Logic.Function.Defs.{LeftInverse-Injective}
-use Rattle.numbers.specs.Numbers.{number_of}
 use Rattle.numbers.specs.declared.Answer.{Answer}
 use Rattle.numbers.proofs.Told.{answer-same}
 use Rattle.meaning.specs.Table.{Class as Kind, unused, call, return, internal}

@@ -1,4 +1,7 @@
 // The rule file: what a good one says. Nothing outside the lent file is read.
+
+#![tactic(auto)]
+
 mod parts;
 mod read;
 

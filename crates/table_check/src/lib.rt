@@ -1,4 +1,7 @@
 // Whether a rule file is good. Any bytes of any length get an answer, and nothing outside the lent file is read.
+
+#![tactic(auto)]
+
 mod parts;
 mod rows;
 

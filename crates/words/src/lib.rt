@@ -1,5 +1,8 @@
 // Byte strings: the longest common beginning, byte order, rising lists, with the laws that the crates above use.
 // Each function comes with the crate that needs it.
+
+#![tactic(auto)]
+
 mod all_bytes;
 mod beginning;
 mod byte_order;

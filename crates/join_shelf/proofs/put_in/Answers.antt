@@ -1,0 +1,90 @@
+-- `join_shelf::put_in` meets its contract. Assumes nothing.
+use mathlib.Core.Path.{◌≡◌, refl, sym, ◌∙◌}
+use mathlib.Core.Bool.{false≢true}
+use mathlib.Core.Logic.{inl, inr}
+use mathlib.Core.List.{List, ◌++◌}
+use Prim.Native.Nat.{ℕ, ◌+◌, ◌<◌}
+use native.Mathlib.Omega.{arith}
+use lib.ListN.{length, length-append}
+use Rattle.join_shelf.specs.Shelved.{word_at, Held, SomeShelved}
+use Rattle.join_shelf.specs.declared.Shelf.TheVariants.{Made}
+use Rattle.join_shelf.proofs.Rooms.{held_same, held_new, more-words, more_bytes}
+use Rattle.join_shelf.proofs.Laws.{shelved-made, shelved-full}
+use Rattle.join_shelf.proofs.put_in.Goals as goal
+use Rattle.join_shelf.proofs.put_in.Goals.{After-stands, Else-stands}
+
+-- where it is known whether the word is there
+abbrev long : (c : After-stands) → length (c.args.head.now ++ c.args.tail.now)
+    ≡ length c.args.head.now + length c.args.tail.now
+long c = length-append c.args.head.now c.args.tail.now
+
+new : (c : Else-stands) → c.place-at.result < c.args.count
+    → c.args.head.now ++ c.args.tail.now ≡ word_at c.args.room.now c.place-at.result → ⊥
+new c l e = false≢true (sym c.if-stands.false ∙ c.stands.ensures.0 (l, e))
+
+-- what was put before stands
+held-before : {room : List ℕ} {count used : ℕ} (s : SomeShelved room (Made count used)) → Held s.0 room count used
+held-before s = s.1.made _ _ refl
+
+pub place-at-requires : goal.place-at-requires
+place-at-requires c = (held-before c.requires).standing
+
+pub stands-requires : goal.stands-requires
+stands-requires c = (held-before c.requires).standing
+
+pub returns-then-stands : goal.returns-then-stands
+returns-then-stands c = λ made g.
+    let p = c.stands.ensures.1 c.if-stands.true in
+    shelved-made (held_same (g.made _ _ refl) c.place-at.ensures p.0 p.1)
+
+pub returns-then-count-eq256 : goal.returns-then-count-eq256
+returns-then-count-eq256 c = λ made g.
+    let n = more-words (g.made _ _ refl) c.place-at.ensures (new (goal.at.returns-then-count-eq256 c).Else-stands) in
+    shelved-full (inl (omega arith))
+
+pub overflow_sub-used : goal.overflow_sub-used
+overflow_sub-used c = (held-before c.requires).fits
+
+pub returns-then-used-head : goal.returns-then-used-head
+returns-then-used-head c = λ made g.
+    let n = more_bytes (g.made _ _ refl) c.place-at.ensures (new (goal.at.returns-then-used-head c).Else-stands) in
+    shelved-full (inr (omega (arith, long (goal.at.returns-then-used-head c).After-stands)))
+
+pub overflow_sub-used-2 : goal.overflow_sub-used-2
+overflow_sub-used-2 c = (held-before c.requires).fits
+
+pub returns-then-used-head-2 : goal.returns-then-used-head-2
+returns-then-used-head-2 c = λ made g.
+    let n = more_bytes (g.made _ _ refl) c.place-at.ensures (new (goal.at.returns-then-used-head-2 c).Else-stands) in
+    shelved-full (inr (omega (arith, long (goal.at.returns-then-used-head-2 c).After-stands)))
+
+pub store-end-requires : goal.store-end-requires
+store-end-requires c =
+    let s = held-before c.requires in
+    (omega (arith, s.standing.few), omega (arith, s.fits))
+
+-- where the slot is inserted: the slots in use are few, and the place is one of theirs
+pub overflow_add-count : goal.overflow_add-count
+overflow_add-count c = omega (arith, (held-before c.requires).standing.few)
+
+pub overflow_add-at : goal.overflow_add-at
+overflow_add-at c = omega (arith, (held-before c.requires).standing.few, c.place-at.ensures.within)
+
+pub overflow_cast-count : goal.overflow_cast-count
+overflow_cast-count c = omega (arith, (held-before c.requires).standing.few)
+
+pub insert-requires : goal.insert-requires
+insert-requires c =
+    let few = (held-before c.requires).standing.few in
+    (omega (arith, c.place-at.ensures.within), omega (arith, few))
+
+pub overflow_add-result : goal.overflow_add-result
+overflow_add-result c = omega (arith, (held-before c.requires).standing.few)
+
+pub returns : goal.returns
+returns c = λ made g.
+    let s = g.made _ _ refl in
+    shelved-made
+    (held_new s c.place-at.ensures (new (goal.at.returns c).Else-stands) c.store-end.ensures.stored
+    c.store-end.ensures.same_order c.insert.ensures (omega (arith, s.standing.few))
+    (omega (arith, s.fits, c.store-end.ensures.stored.long, long (goal.at.returns c).After-stands)))

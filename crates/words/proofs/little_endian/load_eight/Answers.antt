@@ -1,0 +1,8 @@
+-- `words::little_endian::load_eight` meets its contract. Assumes nothing.
+use native.Mathlib.Omega.{arith}
+use Rattle.words.specs.LittleEndian.{eight}
+use Rattle.words.proofs.little_endian.load_eight.Goals as goal
+
+pub returns : goal.returns
+unfolding eight
+returns c = omega arith

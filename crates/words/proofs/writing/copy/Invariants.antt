@@ -1,0 +1,10 @@
+use Prim.Native.Nat.{◌-◌}
+use lib.ListN.{length}
+use Rattle.words.proofs.Pasted.{Pasting}
+use Rattle.words.proofs.writing.copy.Given as goal
+
+abbrev pub invariant-loop-i : goal.invariant-loop-i
+invariant-loop-i l = Pasting l.initial.to l.at l.part l.i l.to
+
+abbrev pub decreases-loop-i : goal.decreases-loop-i
+decreases-loop-i l = length l.part - l.i
