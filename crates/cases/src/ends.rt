@@ -1,5 +1,5 @@
 // Ends: of G, of an unsound session and a bad table, and of runs of which all or some accept, with room and without.
-ghost use Rattle.std.specs.Prelude.{◌≤◌};
+ghost use Rattle.std.specs.Prelude.{◌≤◌, length};
 
 use crate::lines::{say, told};
 use crate::sessions::{judged, opened, opening};
@@ -7,95 +7,103 @@ use crate::steps::message;
 use crate::tables::{fork, g, put};
 use numbers::number_of;
 use session_bytes::SIZE;
+use std::io;
 
-pub(crate) fn all() {
-    ends_of_g();
-    refusals();
-    forks();
-    rest();
-    three(b"three runs, none accepts", b"\x08", 4);
-    three(b"three runs, one accepts", b"\x01", 4);
-    three(b"three runs, two accept", b"\x06", 4);
-    three(b"three runs, two that differ accept", b"\x05", 0);
+pub(crate) fn all(rt: &impl Print) -> io::Result<()> {
+    ends_of_g(rt)?;
+    refusals(rt)?;
+    forks(rt)?;
+    rest(rt)?;
+    three(rt, b"three runs, none accepts", b"\x08", 4)?;
+    three(rt, b"three runs, one accepts", b"\x01", 4)?;
+    three(rt, b"three runs, two accept", b"\x06", 4)?;
+    three(rt, b"three runs, two that differ accept", b"\x05", 0)
 }
 
 // The end, with so much room of four dots: the number, the byte count, and the dots.
-fn asked(file: &[u8], session: &[u8; SIZE], room: usize)
+fn asked(rt: &impl Print, file: &[u8], session: &[u8; SIZE], room: usize) -> io::Result<()>
     requires { room ≤ 4 }
 {
     let mut out = [46u8; 4];
     let answer = lent(file, session, &mut out[..], room);
-    io::write_all(1, b"finish: ");
+    rt.write_all(b"finish: ")?;
     let name = answer.number;
-    told(number_of(name) as u64, answer.count as u64);
-    io::write_all(1, &out[..]);
-    io::write_all(1, b"\n");
+    told(rt, number_of(name) as u64, answer.count as u64)?;
+    rt.write_all(&out[..])?;
+    rt.write_all(b"\n")
 }
 
 // An end that is lent so much of an output.
 fn lent(file: &[u8], session: &[u8; SIZE], out: &mut [u8], room: usize) -> numbers::Answer
-    requires* { do ⌜ room ≤ (← ⟦out.len()⟧) ⌝ }
+    requires { room ≤ length out.old }
 {
     finish::finish(file, session, &mut out[..room])
 }
 
 // A message, and the end.
-fn closed(file: &[u8], session: &mut [u8; SIZE], symbols: &[u8], room: usize)
+fn closed(
+    rt: &impl Print,
+    file: &[u8],
+    session: &mut [u8; SIZE],
+    symbols: &[u8],
+    room: usize,
+) -> io::Result<()>
     requires { room ≤ 4 }
 {
-    message(file, session, symbols);
-    asked(file, session, room);
+    message(rt, file, session, symbols)?;
+    asked(rt, file, session, room)
 }
 
 // At once, above depth 0, and where all is sent, which takes no room.
-fn ends_of_g() {
+fn ends_of_g(rt: &impl Print) -> io::Result<()> {
     let file = g();
     let mut session = [0u8; SIZE];
-    say(b"ends of G", opened(&file[..], &mut session));
-    closed(&file[..], &mut session, b"", 4);
-    closed(&file[..], &mut session, b"\x0a", 4);
-    closed(&file[..], &mut session, b"\x01\x0b", 0);
+    say(rt, b"ends of G", opened(&file[..], &mut session))?;
+    closed(rt, &file[..], &mut session, b"", 4)?;
+    closed(rt, &file[..], &mut session, b"\x0a", 4)?;
+    closed(rt, &file[..], &mut session, b"\x01\x0b", 0)
 }
 
 // A session that is not sound, and then a table that is not good either.
-fn refusals() {
+fn refusals(rt: &impl Print) -> io::Result<()> {
     let mut file = g();
     let mut session = opening();
     put(&mut session[..], 33217, b"\x01");
     say(
+        rt,
         b"the end of an unsound session",
         judged(&file[..], &session),
-    );
-    asked(&file[..], &session, 4);
+    )?;
+    asked(rt, &file[..], &session, 4)?;
     put(&mut file[..], 1, b"\x02");
-    say(b"and of a bad table", judged(&file[..], &session));
-    asked(&file[..], &session, 4);
+    say(rt, b"and of a bad table", judged(&file[..], &session))?;
+    asked(rt, &file[..], &session, 4)
 }
 
-fn forks() {
-    forked(b"a and b", b"\x02\x00\x01");
-    forked(b"a and ab", b"\x01\x00\x02");
-    forked(b"a and a", b"\x00\x00\x01");
+fn forks(rt: &impl Print) -> io::Result<()> {
+    forked(rt, b"a and b", b"\x02\x00\x01")?;
+    forked(rt, b"a and ab", b"\x01\x00\x02")?;
+    forked(rt, b"a and a", b"\x00\x00\x01")
 }
 
-fn forked(name: &[u8], word: &[u8]) {
+fn forked(rt: &impl Print, name: &[u8], word: &[u8]) -> io::Result<()> {
     let file = fork(word);
     let mut session = [0u8; SIZE];
-    say(name, opened(&file[..], &mut session));
-    closed(&file[..], &mut session, b"\x01", 4);
+    say(rt, name, opened(&file[..], &mut session))?;
+    closed(rt, &file[..], &mut session, b"\x01", 4)
 }
 
 // G with return 11 from 2 to 0 in place of return 12: `Kp` waits in a final state, `Np` in another, and a further call
 // shows that the end left both.
-fn rest() {
+fn rest(rt: &impl Print) -> io::Result<()> {
     let mut file = g();
     put(&mut file[..], 340, b"\x0b\x02\x00");
     let mut session = [0u8; SIZE];
-    say(b"Kp or Np", opened(&file[..], &mut session));
-    closed(&file[..], &mut session, b"\x0a\x01\x0b", 1);
-    asked(&file[..], &session, 2);
-    asked(&file[..], &session, 4);
-    message(&file[..], &mut session, b"\x0a");
+    say(rt, b"Kp or Np", opened(&file[..], &mut session))?;
+    closed(rt, &file[..], &mut session, b"\x0a\x01\x0b", 1)?;
+    asked(rt, &file[..], &session, 2)?;
+    asked(rt, &file[..], &session, 4)?;
+    message(rt, &file[..], &mut session, b"\x0a")
 }
 
 // Three runs of G: `N` waits in 0, `Kp` in 1 and in 2.
@@ -112,12 +120,12 @@ fn runs() -> [u8; SIZE] {
 }
 
 // Their end where G has other final states.
-fn three(name: &[u8], finals: &[u8], room: usize)
+fn three(rt: &impl Print, name: &[u8], finals: &[u8], room: usize) -> io::Result<()>
     requires { room ≤ 4 }
 {
     let mut file = g();
     put(&mut file[..], 292, finals);
     let session = runs();
-    say(name, judged(&file[..], &session));
-    asked(&file[..], &session, room);
+    say(rt, name, judged(&file[..], &session))?;
+    asked(rt, &file[..], &session, room)
 }

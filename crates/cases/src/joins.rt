@@ -1,5 +1,5 @@
 // Joins: the worked one, refusals in their order, what is nested and what is not, and rows in order and once each.
-ghost use Rattle.std.specs.Prelude.{◌≤◌};
+ghost use Rattle.std.specs.Prelude.{◌≤◌, length};
 
 use crate::checks::number;
 use crate::lines::{having, say, told};
@@ -11,20 +11,20 @@ use crate::tables::put;
 use join::Joined;
 use numbers::number_of;
 use session_bytes::SIZE;
-use words::wide;
+use std::io;
 
 // A room of dots with more than the largest file.
 pub const ROOM: usize = 6500;
 
-pub(crate) fn all() {
-    worked();
-    worked_otherwise();
-    bad_tables();
-    not_nested();
-    allowed();
-    refusals_in_order();
-    readings();
-    marks();
+pub(crate) fn all(rt: &impl Print) -> io::Result<()> {
+    worked(rt)?;
+    worked_otherwise(rt)?;
+    bad_tables(rt)?;
+    not_nested(rt)?;
+    allowed(rt)?;
+    refusals_in_order(rt)?;
+    readings(rt)?;
+    marks(rt)
 }
 
 // What `join` answers, in numbers.
@@ -46,7 +46,7 @@ fn in_numbers(joined: Joined) -> Said {
 
 // A join that is lent so much of an output.
 fn lent(first: &[u8], second: &[u8], out: &mut [u8], room: usize) -> Joined
-    requires* { do ⌜ room ≤ (← ⟦out.len()⟧) ⌝ }
+    requires { room ≤ length out.old }
 {
     join::join(first, second, &mut out[..room])
 }
@@ -58,21 +58,19 @@ fn written(out: &[u8; ROOM], count: usize) -> &[u8] {
 
 // The number, the byte count, how many dots behind the file are dots no more; what `check` says of a file that was
 // written, and which table is bad.
-fn tell(name: &[u8], said: Said, out: &[u8; ROOM]) {
+fn tell(rt: &impl Print, name: &[u8], said: Said, out: &[u8; ROOM]) -> io::Result<()> {
     let count = said.count;
-    io::write_all(1, name);
-    io::write_all(1, b": ");
-    told(said.number, count as u64);
-    io::print_decimal(1, changed(&out[..], count));
+    rt.write_all(name)?;
+    rt.write_all(b": ")?;
+    told(rt, said.number, count as u64)?;
+    print!(rt; "{}", changed(&out[..], count))?;
     if said.number == 0 {
-        io::write_all(1, b" check ");
-        io::print_decimal(1, number(written(out, count)));
+        print!(rt; " check {}", number(written(out, count)))?;
     }
     if said.which != 0 {
-        io::write_all(1, b" table ");
-        io::print_decimal(1, said.which);
+        print!(rt; " table {}", said.which)?;
     }
-    io::write_all(1, b"\n");
+    rt.write_all(b"\n")
 }
 
 // How many bytes from a place on are no dots.
@@ -85,151 +83,183 @@ fn changed(out: &[u8], from: usize) -> u64 {
 }
 
 // A join with so much room.
-pub(crate) fn tried(name: &[u8], first: &[u8; LARGEST], second: &[u8; LARGEST], room: usize)
+pub(crate) fn tried(
+    rt: &impl Print,
+    name: &[u8],
+    first: &[u8; LARGEST],
+    second: &[u8; LARGEST],
+    room: usize,
+) -> io::Result<()>
     requires { room ≤ 6500 }
 {
     let mut out = [46u8; ROOM];
     let said = in_numbers(lent(whole(first), whole(second), &mut out[..], room));
-    tell(name, said, &out);
+    tell(rt, name, said, &out)
 }
 
 // A join, and the rows that it gives.
-pub(crate) fn shown(name: &[u8], first: &[u8; LARGEST], second: &[u8; LARGEST]) {
+pub(crate) fn shown(
+    rt: &impl Print,
+    name: &[u8],
+    first: &[u8; LARGEST],
+    second: &[u8; LARGEST],
+) -> io::Result<()> {
     let mut out = [46u8; ROOM];
     let said = in_numbers(lent(whole(first), whole(second), &mut out[..], ROOM));
-    tell(name, said, &out);
+    tell(rt, name, said, &out)?;
     let count = said.count;
-    list(written(&out, count));
+    list(rt, written(&out, count))
 }
 
 // Bytes in hex, 20 to a line.
-fn dump(bytes: &[u8]) {
+fn dump(rt: &impl Print, bytes: &[u8]) -> io::Result<()> {
     let mut i: usize = 0;
     while i < bytes.len() {
-        io::print_hex(1, wide(bytes[i]) as u64, 2);
+        print!(rt; "{:02x}", bytes[i])?;
         if i % 20 == 19 {
-            io::write_all(1, b"\n");
+            rt.write_all(b"\n")?;
         }
         i += 1;
     }
+    Ok(())
 }
 
 // The worked join: its file, and `(())` through it.
-fn worked() {
+fn worked(rt: &impl Print) -> io::Result<()> {
     let first = first_hop(b"(\x00\x00\x01\x02)\x00\x00\x01\x02", b"[{}]");
     let second = second_hop();
     let mut out = [46u8; ROOM];
     let said = in_numbers(lent(whole(&first), whole(&second), &mut out[..], ROOM));
-    tell(b"the worked join", said, &out);
+    tell(rt, b"the worked join", said, &out)?;
     let count = said.count;
     let file = written(&out, count);
-    dump(file);
+    dump(rt, file)?;
     let mut session = [0u8; SIZE];
-    say(b"(()) through it", opened(file, &mut session));
-    message(file, &mut session, b"(())");
-    tried(b"room for all", &first, &second, 320);
-    tried(b"room for one byte less", &first, &second, 319);
+    say(rt, b"(()) through it", opened(file, &mut session))?;
+    message(rt, file, &mut session, b"(())")?;
+    tried(rt, b"room for all", &first, &second, 320)?;
+    tried(rt, b"room for one byte less", &first, &second, 319)
 }
 
 // With `}` for `}]`; and with `<` that writes `{[` and `>` that writes `]}` too.
-fn worked_otherwise() {
+fn worked_otherwise(rt: &impl Print) -> io::Result<()> {
     let second = second_hop();
     let short = first_hop(b"(\x00\x00\x01\x02)\x00\x00\x01\x01", b"[{}");
-    tried(b"} for }]", &short, &second, ROOM);
+    tried(rt, b"} for }]", &short, &second, ROOM)?;
     let both = outer(
         b"\x01\x01\x04\x04",
         b"(\x00\x00\x01\x02)\x00\x00\x01\x02<\x00\x00\x01\x02>\x00\x00\x01\x02",
         b"[{}]{[]}",
     );
-    shown(b"< and > too", &both, &second);
+    shown(rt, b"< and > too", &both, &second)
 }
 
-fn bad_tables() {
+fn bad_tables(rt: &impl Print) -> io::Result<()> {
     let first = first_hop(b"", b"");
     let second = second_hop();
     let mut bad = second_hop();
     put(&mut bad[..], 0, b"\x02");
-    tried(b"the first is bad", &bad, &second, ROOM);
-    tried(b"the second is bad", &first, &bad, ROOM);
-    tried(b"both are bad", &bad, &bad, ROOM);
+    tried(rt, b"the first is bad", &bad, &second, ROOM)?;
+    tried(rt, b"the second is bad", &first, &bad, ROOM)?;
+    tried(rt, b"both are bad", &bad, &bad, ROOM)
 }
 
 // A first table with two markers, joined with the second of the worked join.
-fn nested(name: &[u8], rows: &[u8], words: &[u8]) {
+fn nested(rt: &impl Print, name: &[u8], rows: &[u8], words: &[u8]) -> io::Result<()> {
     let first = outer(b"\x01\x02\x04\x04", rows, words);
     let second = second_hop();
-    shown(name, &first, &second);
+    shown(rt, name, &first, &second)
 }
 
-fn not_nested() {
-    nested(b"a byte of class 0", b"x\x00\x00\x00\x02", b"a!");
-    nested(b"an internal word left open", b"x\x00\x00\x00\x01", b"[");
+fn not_nested(rt: &impl Print) -> io::Result<()> {
+    nested(rt, b"a byte of class 0", b"x\x00\x00\x00\x02", b"a!")?;
     nested(
+        rt,
+        b"an internal word left open",
+        b"x\x00\x00\x00\x01",
+        b"[",
+    )?;
+    nested(
+        rt,
         b"an internal word that closes nothing",
         b"x\x00\x00\x00\x02",
         b"][",
-    );
+    )?;
     nested(
+        rt,
         b"a call word left open by the return word",
         b"(\x00\x00\x01\x02)\x00\x00\x01\x01",
         b"[{}",
-    );
+    )?;
     nested(
+        rt,
         b"a return word that closes too much",
         b"(\x00\x00\x01\x01)\x00\x00\x01\x02",
         b"[}]",
-    );
+    )
 }
 
 // What looks not nested, and is: the last is nested by its classes, and no run of the second reads it.
-fn allowed() {
+fn allowed(rt: &impl Print) -> io::Result<()> {
     nested(
+        rt,
         b"a call word that the return word closes",
         b"(\x00\x00\x01\x01)\x00\x00\x01\x01",
         b"[]",
-    );
-    nested(b"a call word with no return", b"(\x00\x00\x01\x01", b"[");
+    )?;
     nested(
+        rt,
+        b"a call word with no return",
+        b"(\x00\x00\x01\x01",
+        b"[",
+    )?;
+    nested(
+        rt,
         b"a return with another marker",
         b"(\x00\x00\x01\x01)\x00\x00\x02\x00",
         b"[",
-    );
-    nested(b"markers that do not match", b"x\x00\x00\x00\x02", b"[}");
+    )?;
+    nested(
+        rt,
+        b"markers that do not match",
+        b"x\x00\x00\x00\x02",
+        b"[}",
+    )
 }
 
 // Each with no room: a bad table; not nested and too large; too large; and none of these.
-fn refusals_in_order() {
+fn refusals_in_order(rt: &impl Print) -> io::Result<()> {
     let second = second_hop();
     let row = b"x\x00\x00\x00\x11";
     let mut first = outer(b"\x01\x00\x04\x04", row, b"aaaaaaaaaaaaaaaa[");
-    tried(b"not nested and too large", &first, &second, 0);
+    tried(rt, b"not nested and too large", &first, &second, 0)?;
     put(&mut first[..], 0, b"\x02");
-    tried(b"a bad table", &first, &second, 0);
+    tried(rt, b"a bad table", &first, &second, 0)?;
     first = outer(b"\x01\x00\x04\x04", row, b"aaaaaaaaaaaaaaaaa");
-    tried(b"too large", &first, &second, 0);
+    tried(rt, b"too large", &first, &second, 0)?;
     first = outer(b"\x01\x00\x04\x04", b"x\x00\x00\x00\x01", b"a");
-    tried(b"no room", &first, &second, 0);
+    tried(rt, b"no room", &first, &second, 0)
 }
 
 // Internal `x` writes `ab`, which the second reads in two ways: to one row, and to rows that it finds out of order.
-fn readings() {
+fn readings(rt: &impl Print) -> io::Result<()> {
     let first = outer(b"\x02\x00\x04\x04", b"x\x00\x01\x00\x02", b"ab");
     let once = inner(
         b"\x03\x00\x04\x04",
         b"a\x00\x01\x00\x01a\x00\x02\x00\x02b\x01\x00\x00\x02b\x02\x00\x00\x01",
         b"ppqqrr",
     );
-    shown(b"two readings of one row", &first, &once);
+    shown(rt, b"two readings of one row", &first, &once)?;
     let falling = inner(
         b"\x03\x00\x04\x04",
         b"a\x00\x01\x00\x01a\x00\x02\x00\x01b\x01\x00\x00\x00b\x01\x02\x00\x00b\x02\x00\x00\x00b\x02\x01\x00\x00",
         b"zy",
     );
-    shown(b"readings out of order", &first, &falling);
+    shown(rt, b"readings out of order", &first, &falling)
 }
 
 // A return row is read from the list of each mark; marks are numbered by their lists, a beginning first.
-fn marks() {
+fn marks(rt: &impl Print) -> io::Result<()> {
     let first = outer(
         b"\x01\x01\x04\x04",
         b"(\x00\x00\x01\x01)\x00\x00\x01\x01",
@@ -240,12 +270,12 @@ fn marks() {
         b"[\x00\x00\x01\x01[\x00\x00\x02\x01]\x00\x00\x01\x01]\x00\x00\x02\x01",
         b"abcd",
     );
-    shown(b"a return from the popped list", &first, &forked);
+    shown(rt, b"a return from the popped list", &first, &forked)?;
     let open = outer(
         b"\x01\x01\x04\x04",
         b"(\x00\x00\x01\x00(\x00\x00\x01\x01<\x00\x00\x01\x01<\x00\x00\x01\x02",
         b"{[[{",
     );
     let second = second_hop();
-    shown(b"lists in order", &open, &second);
+    shown(rt, b"lists in order", &open, &second)
 }

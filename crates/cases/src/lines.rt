@@ -2,29 +2,24 @@
 ghost use Rattle.std.specs.Prelude.{◌≤◌, length};
 
 use session_bytes::SIZE;
+use std::io;
 
 // One line: what was tried, and the number.
-pub(crate) fn say(name: &[u8], n: u64) {
-    io::write_all(1, name);
-    io::write_all(1, b": ");
-    io::print_decimal(1, n);
-    io::write_all(1, b"\n");
+pub(crate) fn say(rt: &impl Print, name: &[u8], n: u64) -> io::Result<()> {
+    rt.write_all(name)?;
+    println!(rt; ": {n}")
 }
 
 // The number and the byte count that a call gave.
-pub(crate) fn told(n: u64, count: u64) {
-    io::print_decimal(1, n);
-    io::write_all(1, b" ");
-    io::print_decimal(1, count);
-    io::write_all(1, b" ");
+pub(crate) fn told(rt: &impl Print, n: u64, count: u64) -> io::Result<()> {
+    print!(rt; "{n} {count} ")
 }
 
 // The depth of a session, and how many links it has.
-pub(crate) fn held(session: &[u8; SIZE]) {
-    io::print_decimal(1, session_bytes::depth(session) as u64);
-    io::write_all(1, b" ");
-    io::print_decimal(1, session_bytes::count(session) as u64);
-    io::write_all(1, b" ");
+pub(crate) fn held(rt: &impl Print, session: &[u8; SIZE]) -> io::Result<()> {
+    let depth = session_bytes::depth(session);
+    let count = session_bytes::count(session);
+    print!(rt; "{depth} {count} ")
 }
 
 // How many bytes have a value.

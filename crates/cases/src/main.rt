@@ -1,4 +1,6 @@
 // Runs the cases that are not proved, and prints what each gives; `stdout` beside this folder holds what it must be.
+#![tactic(auto)]
+
 mod checks;
 mod edges;
 mod ends;
@@ -10,12 +12,14 @@ mod sessions;
 mod steps;
 mod tables;
 
-fn main() {
-    checks::all();
-    readers::all();
-    sessions::all();
-    steps::all();
-    ends::all();
-    joins::all();
-    edges::all();
+use std::io;
+
+fn main(rt: HostRuntime) -> io::Result<()> {
+    checks::all(&rt)?;
+    readers::all(&rt)?;
+    sessions::all(&rt)?;
+    steps::all(&rt)?;
+    ends::all(&rt)?;
+    joins::all(&rt)?;
+    edges::all(&rt)
 }

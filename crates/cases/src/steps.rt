@@ -1,34 +1,39 @@
 // Steps: of G, of a table whose runs clash, and of one with 64 links and with a link more.
-ghost use Rattle.std.specs.Prelude.{◌≤◌};
+ghost use Rattle.std.specs.Prelude.{◌≤◌, length};
 
 use crate::lines::{held, say, told};
 use crate::sessions::{judged, opened, opening};
 use crate::tables::{crowd, g, larger_crowd, put};
 use numbers::number_of;
 use session_bytes::SIZE;
+use std::io;
 
-pub(crate) fn all() {
-    steps_of_g();
-    refusals_of_g();
-    unsound();
-    conflict();
-    crowds();
+pub(crate) fn all(rt: &impl Print) -> io::Result<()> {
+    steps_of_g(rt)?;
+    refusals_of_g(rt)?;
+    unsound(rt)?;
+    conflict(rt)?;
+    crowds(rt)
 }
 
 // One symbol, with so much room of four dots: the number, the byte count, depth and links after it, and the dots.
-fn took(file: &[u8], session: &mut [u8; SIZE], symbol: u8, room: usize)
+fn took(
+    rt: &impl Print,
+    file: &[u8],
+    session: &mut [u8; SIZE],
+    symbol: u8,
+    room: usize,
+) -> io::Result<()>
     requires { room ≤ 4 }
 {
     let mut out = [46u8; 4];
     let answer = lent(file, session, symbol, &mut out[..], room);
-    io::write_all(1, b"step ");
-    io::print_decimal(1, symbol as u64);
-    io::write_all(1, b": ");
+    print!(rt; "step {symbol}: ")?;
     let name = answer.number;
-    told(number_of(name) as u64, answer.count as u64);
-    held(session);
-    io::write_all(1, &out[..]);
-    io::write_all(1, b"\n");
+    told(rt, number_of(name) as u64, answer.count as u64)?;
+    held(rt, session)?;
+    rt.write_all(&out[..])?;
+    rt.write_all(b"\n")
 }
 
 // A step that is lent so much of an output.
@@ -39,64 +44,70 @@ fn lent(
     out: &mut [u8],
     room: usize,
 ) -> numbers::Answer
-    requires* { do ⌜ room ≤ (← ⟦out.len()⟧) ⌝ }
+    requires { room ≤ length out.old }
 {
     step::step(file, session, symbol, &mut out[..room])
 }
 
 // Symbol after symbol, with all the room.
-pub(crate) fn message(file: &[u8], session: &mut [u8; SIZE], symbols: &[u8]) {
+pub(crate) fn message(
+    rt: &impl Print,
+    file: &[u8],
+    session: &mut [u8; SIZE],
+    symbols: &[u8],
+) -> io::Result<()> {
     let mut i = 0;
     while i < symbols.len() {
-        took(file, session, symbols[i], 4);
+        took(rt, file, session, symbols[i], 4)?;
         i += 1;
     }
+    Ok(())
 }
 
-fn steps_of_g() {
+fn steps_of_g(rt: &impl Print) -> io::Result<()> {
     let file = g();
     let mut session = [0u8; SIZE];
-    say(b"steps of G", opened(&file[..], &mut session));
-    took(&file[..], &mut session, 10, 0);
-    took(&file[..], &mut session, 10, 1);
-    message(&file[..], &mut session, b"\x01\x01\x01\x01\x0c");
+    say(rt, b"steps of G", opened(&file[..], &mut session))?;
+    took(rt, &file[..], &mut session, 10, 0)?;
+    took(rt, &file[..], &mut session, 10, 1)?;
+    message(rt, &file[..], &mut session, b"\x01\x01\x01\x01\x0c")
 }
 
-fn refusals_of_g() {
+fn refusals_of_g(rt: &impl Print) -> io::Result<()> {
     let mut file = g();
     let mut session = [0u8; SIZE];
-    say(b"refusals of G", opened(&file[..], &mut session));
-    message(&file[..], &mut session, b"\x07\x0b\x01\x0a\x0a");
+    say(rt, b"refusals of G", opened(&file[..], &mut session))?;
+    message(rt, &file[..], &mut session, b"\x07\x0b\x01\x0a\x0a")?;
     put(&mut file[..], 3, b"\x01");
-    message(&file[..], &mut session, b"\x0a");
+    message(rt, &file[..], &mut session, b"\x0a")?;
     put(&mut file[..], 1, b"\x02");
-    message(&file[..], &mut session, b"\x01");
+    message(rt, &file[..], &mut session, b"\x01")
 }
 
 // G after 10, with a byte in a place not used.
-fn unsound() {
+fn unsound(rt: &impl Print) -> io::Result<()> {
     let file = g();
     let mut session = opening();
     put(&mut session[..], 33217, b"\x01");
-    say(b"an unsound session", judged(&file[..], &session));
-    message(&file[..], &mut session, b"\x01");
+    say(rt, b"an unsound session", judged(&file[..], &session))?;
+    message(rt, &file[..], &mut session, b"\x01")
 }
 
 // G with `ON` leading to 1 as `OK` does: one trail, two outputs.
-fn conflict() {
+fn conflict(rt: &impl Print) -> io::Result<()> {
     let mut file = g();
     put(&mut file[..], 326, b"\x01");
     let mut session = [0u8; SIZE];
-    say(b"a conflict", opened(&file[..], &mut session));
-    message(&file[..], &mut session, b"\x0a");
+    say(rt, b"a conflict", opened(&file[..], &mut session))?;
+    message(rt, &file[..], &mut session, b"\x0a")
 }
 
-fn crowds() {
+fn crowds(rt: &impl Print) -> io::Result<()> {
     let file = crowd();
     let mut session = [0u8; SIZE];
-    say(b"a crowd", opened(&file[..], &mut session));
-    message(&file[..], &mut session, b"\x0a\x0a");
+    say(rt, b"a crowd", opened(&file[..], &mut session))?;
+    message(rt, &file[..], &mut session, b"\x0a\x0a")?;
     let larger = larger_crowd();
-    say(b"one row more", opened(&larger[..], &mut session));
-    message(&larger[..], &mut session, b"\x0a");
+    say(rt, b"one row more", opened(&larger[..], &mut session))?;
+    message(rt, &larger[..], &mut session, b"\x0a")
 }
