@@ -1,17 +1,16 @@
--- Numbers and bytes as text: what `itoa` spells is the decimal number, and how long texts are.
+-- Numbers and bytes as text: what `io` spells in the fewest digits is the decimal number, and how long texts are.
 -- Assumes nothing.
-use mathlib.Core.Path.{◌≡◌, refl, ◌∙◌, ap}
+use mathlib.Core.Path.{◌≡◌, refl, ◌∙◌, ap, subst}
 use mathlib.Core.Logic.{◌⊎◌, inl, inr}
 use mathlib.Core.List.{[], ◌∷◌, ◌++◌}
-use Prim.Native.Nat.{ℕ, zero, suc, ◌+◌, ◌*◌, ◌/◌, ◌%◌, ◌^◌, ◌<◌, ◌≤◌}
-use native.Mathlib.Nat.{pow-suc, pow-zero}
+use Prim.Native.Nat.{ℕ, zero, suc, ◌+◌, ◌-◌, ◌*◌, ◌/◌, ◌%◌, ◌^◌, ◌<◌, ◌≤◌}
+use native.Mathlib.Nat.{pow-suc, pow-zero, one-le-pow}
 use native.Mathlib.Numerals.{add-one}
 use native.Mathlib.Omega.{arith}
 use lib.ListN.{length, take, get_or, length-append}
 use lib.Seq.{take-suc, length-take-le}
 use borrow.Author.Tests.{lt-ltb, le-ltb}
-use Rattle.std.specs.Fmt.{decimal as printed}
-use Rattle.std.proofs.lemmas.Fmt.{decimal_digit, decimal_step}
+use Rattle.io.specs.Digits.{hex_digit_ascii, last_digits, IsDigitCount}
 use Rattle.words.specs.Words.{Word}
 use Rattle.words.proofs.Lists.{below_or}
 use Rattle.rewrite_lines.specs.Text.{decimal_in, decimal, hex, hex_or_dash}
@@ -20,25 +19,42 @@ use Rattle.rewrite_lines.specs.Text.{decimal_in, decimal, hex, hex_or_dash}
 tenth : (k n : ℕ) → n < 10 ^ suc k → n / 10 < 10 ^ k
 tenth k n lt = let e = pow-suc 10 k in omega arith
 
+at_least : (k n : ℕ) → 10 ^ suc k ≤ n → 10 ^ k ≤ n / 10
+at_least k n le = let e = pow-suc 10 k in omega arith
+
 -- in as many digits as are needed, and no more
-one_digit : (most n : ℕ) → n < 10 → printed n ≡ decimal_in (suc most) n
-one_digit most n lt = rw (decimal_digit n lt, lt-ltb n 10 lt)
+spelled : (most k n : ℕ) → k ≤ most → n < 10 ^ suc k → (0 < k → 10 ^ k ≤ n)
+    → last_digits 10 (suc k) n ≡ decimal_in (suc most) n
+spelled most zero n le lt least =
+    let e : n < 10 = omega (arith, pow-suc 10 0, pow-zero 10) in
+    let f : n % 10 ≡ n = omega arith in
+    rw (f, lt-ltb n 10 e)
+spelled zero (suc k) n le lt least = absurd (omega arith)
+spelled (suc most) (suc k) n le lt least =
+    let many : 10 ^ suc k ≤ n = least (omega arith) in
+    let e : 10 ≤ n = omega (arith, pow-suc 10 k, one-le-pow k 10 (omega arith)) in
+    rw (le-ltb n 10 e)
+    (ap (λ (w : Word). w ++ hex_digit_ascii (n % 10) ∷ [])
+    (spelled most k (n / 10) (omega arith) (tenth (suc k) n lt) (λ _. at_least k n many)))
 
-spelled : (most n : ℕ) → n ≤ most → n < 2 ^ 64 → printed n ≡ decimal_in (suc most) n
-spelled zero n le lt = one_digit zero n (omega arith)
-spelled (suc most) n le lt = by (spelled most (n / 10) (omega arith) (omega arith)) (below_or n 10)
-  where
-    by : printed (n / 10) ≡ decimal_in (suc most) (n / 10) → (n < 10) ⊎ (10 ≤ n)
-        → printed n ≡ decimal_in (suc (suc most)) n
-    by e (inl l) = one_digit (suc most) n l
-    by e (inr g) =
-        let last : n % 10 < 10 = omega arith in
-        rw (decimal_step n g lt, e, le-ltb n 10 g, lt-ltb (n % 10) 10 last)
+less-than-ones : (k : ℕ) → k < 10 ^ k
+less-than-ones zero = omega (arith, pow-zero 10)
+less-than-ones (suc k) = omega (arith, pow-suc 10 k, less-than-ones k)
 
--- what `itoa` spells
-pub decimal-spelled : (n : ℕ) → n < 2 ^ 64 → printed n ≡ decimal n
+-- what `io` spells
+pub decimal-spelled : (n r : ℕ) → IsDigitCount 10 1 n r → last_digits 10 r n ≡ decimal n
 unfolding decimal
-decimal-spelled n lt = spelled n n (omega arith) lt
+decimal-spelled n zero fewest = absurd (omega arith)
+decimal-spelled n (suc k) fewest =
+    let least : 0 < k → 10 ^ k ≤ n = λ some. subst (λ (j : ℕ). 10 ^ j ≤ n) one_less (fewest.2 (omega arith)) in
+    spelled n k n (enough k least) fewest.1 least
+  where
+    one_less : suc k - 1 ≡ k
+    one_less = omega arith
+
+    enough : (k : ℕ) → (0 < k → 10 ^ k ≤ n) → k ≤ n
+    enough zero least = omega arith
+    enough (suc k) least = omega (arith, least (omega arith), less-than-ones (suc k))
 
 -- how many digits
 short-in : (most k n : ℕ) → n < 10 ^ suc k → length (decimal_in most n) ≤ suc k

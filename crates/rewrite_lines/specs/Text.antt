@@ -1,15 +1,12 @@
 -- The text that the program prints, as bytes: numbers, bytes in hex, and its lines.
-use Rattle.std.specs.Prelude.{cond, [], ◌∷◌, ◌++◌, ℕ, zero, suc, ◌+◌, ◌/◌, ◌%◌, ltb}
+use Rattle.std.specs.Prelude.{cond, [], ◌∷◌, ◌++◌, ℕ, zero, suc, ◌/◌, ◌%◌, ltb}
+use Rattle.io.specs.Digits.{hex_digit_ascii}
 use Rattle.words.specs.Words.{Word}
-
--- the letter of a digit below 16: `0` to `9`, then `a` to `f`
-abbrev pub glyph : ℕ → ℕ
-glyph d = cond (ltb d 10) (48 + d) (87 + d)
 
 -- a number in decimal, the highest digit first and no 0 in front, if `most` digits are enough
 abbrev pub decimal_in : ℕ → ℕ → Word
 decimal_in zero n = []
-decimal_in (suc most) n = cond (ltb n 10) (glyph n ∷ []) (decimal_in most (n / 10) ++ glyph (n % 10) ∷ [])
+decimal_in (suc most) n = cond (ltb n 10) (hex_digit_ascii n ∷ []) (decimal_in most (n / 10) ++ hex_digit_ascii (n % 10) ∷ [])
 
 -- "place from 1, symbol, number given back, depth after", in decimal: `n` has at most `n + 1` digits
 unfoldable pub decimal : ℕ → Word
@@ -18,7 +15,7 @@ decimal n = decimal_in (suc n) n
 -- "bytes sent in hex": two digits a byte, `glyph` has small letters
 abbrev pub hex : Word → Word
 hex [] = []
-hex (b ∷ w) = glyph (b / 16) ∷ glyph (b % 16) ∷ hex w
+hex (b ∷ w) = hex_digit_ascii (b / 16) ∷ hex_digit_ascii (b % 16) ∷ hex w
 
 -- "in hex or `-`"
 abbrev pub hex_or_dash : Word → Word

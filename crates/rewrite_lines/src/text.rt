@@ -1,7 +1,8 @@
 // Numbers, bytes in hex and whole lines. Each asks that its text has room for what it puts.
 ghost use Rattle.std.specs.Prelude.{◌≡◌, [], ◌∷◌, ◌<◌};
+ghost use Rattle.io.specs.Digits.{hex_digit_ascii as Digits·glyph};
 ghost use Rattle.words.specs.Calls.{Room, Appended};
-ghost use Rattle.rewrite_lines.specs.Text.{decimal, glyph as Text·glyph, hex, hex_or_dash, field, last_field, line, ending, no_table};
+ghost use Rattle.rewrite_lines.specs.Text.{decimal, hex, hex_or_dash, field, last_field, line, ending, no_table};
 
 use words::{put_byte, put_bytes};
 
@@ -9,14 +10,15 @@ fn put_decimal(text: &mut [u8], at: usize, n: u64) -> usize
     requires { Room text.old at (decimal n) }
     ensures { Appended text.old at (decimal n) result text.new }
 {
-    let mut digits = itoa::Buffer::new();
-    put_bytes(text, at, digits.format(n).as_bytes())
+    let mut digits = [0u8; 20];
+    let many = io::decimal(n, &mut digits);
+    put_bytes(text, at, &digits[..many])
 }
 
 // A digit of a byte in hex.
 fn glyph(d: u8) -> u8
     requires { d < 16 }
-    ensures { result ≡ Text·glyph d }
+    ensures { result ≡ Digits·glyph d }
 {
     if d < 10 { 48 + d } else { 87 + d }
 }
