@@ -1,6 +1,6 @@
 -- What a step knows as its tests pass, one after the other, of the lists it was lent. Assumes nothing.
 use mathlib.Core.Path.{◌≡◌, refl, sym, ◌∙◌, ap, subst}
-use mathlib.Core.Bool.{Bool, true, false, not}
+use mathlib.Core.Bool.{Bool, true, false}
 use mathlib.Core.Logic.{◌⊎◌, inl, inr}
 use mathlib.Core.List.{List, [], ◌∷◌, append-nil}
 use Prim.Native.Nat.{ℕ, ◌+◌, ◌-◌, ◌<◌, ◌≤◌}
@@ -53,11 +53,6 @@ pub part-passed : {file session : List ℕ} {a d : ℕ} {P : ℕ → Type 0} {r 
     → P d → Part file session a P r
 part-passed {P = P} e h =
     record { refused = λ no_zero. absurd (no_zero (ap number_of e.0)); passed = λ z. subst P (sym e.1) h }
-
--- what is told by `if !…`
-pub off : (b : Bool) → not b ≡ true → b ≡ false
-off true e = sym e
-off false e = refl
 
 module _ {file session : List ℕ} (proper : Proper file session) (symbol depth : ℕ) (is : depth ≡ byte session 0) where
   abbrev Refused : Number → Type 0

@@ -1,12 +1,12 @@
 -- What a test says exactly, and how tests of parts make a test of the whole. Assumes nothing.
-use mathlib.Core.Path.{◌≡◌, refl, sym}
+use mathlib.Core.Path.{◌≡◌, refl, sym, ◌∙◌}
 use mathlib.Core.Logic.{◌↔◌, ◌⊎◌, inl, inr}
 use mathlib.Core.Bool.{Bool, true, false, cond, not, ◌&&◌, ◌||◌, false≢true}
 use mathlib.Core.List.Memᴰ
 use mathlib.Core.List.{List}
 use Prim.Native.Nat.{ℕ, ◌<◌, ◌≤◌}
 use lib.Dec.{eqb, ltb, leb}
-use borrow.Author.Tests.{eqb-true, eq-eqb, ltb-true, lt-ltb, leb-true, le-leb, not-false}
+use borrow.Author.Tests.{eqb-true, eq-eqb, ltb-true, lt-ltb, leb-true, le-leb}
 use Rattle.words.specs.Lists.{◌among◌, Exact, every, any_of, is_empty}
 use Rattle.words.specs.Words.{Word}
 use Rattle.words.specs.Order.{same_word}
@@ -20,16 +20,12 @@ yes-exact p = (λ q. refl, λ e. p)
 pub no-exact : {P : Type 0} → (P → ⊥) → Exact P false
 no-exact f = (λ p. absurd (f p), λ e. absurd (false≢true e))
 
--- what a test says where the code goes on by `if !test`
-pub denied : {P : Type 0} {b : Bool} → Exact P b → not b ≡ true → P → ⊥
-denied {b = b} e h p = go b (e.0 p) h
-  where
-    go : (b : Bool) → b ≡ true → not b ≡ true → ⊥
-    go true f h = false≢true h
-    go false f h = false≢true f
+-- what a test says in a branch of `if test` or `if !test`
+pub denied : {P : Type 0} {b : Bool} → Exact P b → b ≡ false → P → ⊥
+denied e f p = false≢true (sym f ∙ e.0 p)
 
-pub granted : {P : Type 0} {b : Bool} → Exact P b → not b ≡ false → P
-granted {b = b} e h = e.1 (not-false b h)
+pub granted : {P : Type 0} {b : Bool} → Exact P b → b ≡ true → P
+granted e h = e.1 h
 
 pub eqb-exact : (m n : ℕ) → Exact (m ≡ n) (eqb m n)
 eqb-exact m n = (eq-eqb m n, eqb-true m n)

@@ -9,7 +9,8 @@ use Rattle.join_file.proofs.put_head.Goals as goal
 use Rattle.join_file.proofs.put_head.Goals.{After-states-2}
 
 -- how many states
-states-are : (c : After-states-2) → c.states.result * c.states-2.result ≡ (table_of c.args.first.now).states * (table_of c.args.second.now).states
+states-are : (c : After-states-2) → c.states.result * c.states-2.result
+    ≡ (table_of c.args.first.now).states * (table_of c.args.second.now).states
 states-are c = ap₂ (λ (m n : ℕ). m * n) c.states.ensures c.states-2.ensures
 
 states-few : (c : After-states-2) → c.states.result * c.states-2.result ≤ 64
@@ -25,5 +26,6 @@ pub overflow_cast-depth : goal.overflow_cast-depth
 overflow_cast-depth c = omega (arith, c.depth_cap-depth.ensures, depth_small _ c.requires.0.first)
 
 pub returns : goal.returns
-returns c = rw (states-are (goal.at.returns c).After-states-2, c.depth_cap-depth.ensures, c.waiting_cap-waiting.ensures) at
+returns c =
+    rw (states-are (goal.at.returns c).After-states-2, c.depth_cap-depth.ensures, c.waiting_cap-waiting.ensures) at
     (appended-next c.put_four-next.ensures c.put_entry.ensures)

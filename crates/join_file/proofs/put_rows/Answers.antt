@@ -16,7 +16,10 @@ pub word-key-requires : goal.word-key-requires
 word-key-requires c = record { count = _; standing = c.loop-i.invariant.keys.standing; within = omega arith }
 
 pub put_row-end-requires : goal.put_row-end-requires
-put_row-end-requires c = (row_room _ c.loop-i.invariant _ c.word-key.ensures (omega arith) _, the-key (goal.at.put_row-end-requires c).After-word-key)
+put_row-end-requires c = (
+  row_room _ c.loop-i.invariant _ c.word-key.ensures (omega arith) _,
+  the-key (goal.at.put_row-end-requires c).After-word-key,
+)
 
 pub overflow_sub-start : goal.overflow_sub-start
 overflow_sub-start c = (the-key (goal.at.overflow_sub-start c).After-word-key).whole

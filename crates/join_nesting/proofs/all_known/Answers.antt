@@ -1,6 +1,4 @@
 -- `join_nesting::all_known` meets its contract. Assumes nothing.
-use mathlib.Core.Path.{ap}
-use mathlib.Core.Bool.{not}
 use native.Mathlib.Omega.{arith}
 use borrow.Author.Count.{below_more}
 use Rattle.words.proofs.Lists.{get_or-among}
@@ -13,13 +11,13 @@ loop-i-init c = (omega arith, λ j l. absurd (omega arith))
 
 pub returns-then-not-known : goal.returns-then-not-known
 returns-then-not-known c = no-exact (λ h.
-    denied c.known.ensures (ap not c.if-not-known.true) (h.each _ (get_or-among _ _ 0 (omega arith))))
+    denied c.known.ensures c.if-not-known.true (h.each _ (get_or-among _ _ 0 (omega arith))))
 
 pub loop-i-preserved : goal.loop-i-preserved
 loop-i-preserved c = (
   omega arith,
   below_more _ _ c.loop-i.invariant.1
-      (granted c.known.ensures (ap not c.if-not-known.false)),
+      (granted c.known.ensures c.if-not-known.false),
 )
 
 pub returns : goal.returns

@@ -1,6 +1,4 @@
 -- `join_nesting::pairs_nest` meets its contract. Assumes nothing.
-use mathlib.Core.Path.{ap}
-use mathlib.Core.Bool.{not}
 use native.Mathlib.Omega.{arith}
 use borrow.Author.Count.{below_more}
 use Rattle.words.proofs.Exact.{yes-exact, no-exact, denied, granted}
@@ -12,13 +10,13 @@ loop-j-init c = (omega arith, λ m l. absurd (omega arith))
 
 pub returns-then-not-pair_nests : goal.returns-then-not-pair_nests
 returns-then-not-pair_nests c = no-exact (λ h.
-    denied c.pair_nests.ensures (ap not c.if-not-pair_nests.true) (h.each _ (row-among _ _ (omega arith))))
+    denied c.pair_nests.ensures c.if-not-pair_nests.true (h.each _ (row-among _ _ (omega arith))))
 
 pub loop-j-preserved : goal.loop-j-preserved
 loop-j-preserved c = (
   omega arith,
   below_more _ _ c.loop-j.invariant.1
-      (granted c.pair_nests.ensures (ap not c.if-not-pair_nests.false)),
+      (granted c.pair_nests.ensures c.if-not-pair_nests.false),
 )
 
 pub returns : goal.returns

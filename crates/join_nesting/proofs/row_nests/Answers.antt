@@ -14,7 +14,8 @@ after_word-requires c = let hops = c.requires.0 in
     (hops.second, omega arith, word-short hops _ c.row_word-word.ensures)
 
 pub pairs_nest-requires : goal.pairs_nest-requires
-pairs_nest-requires c = record { hops = c.requires.0; within = c.requires.1; is = rw (← c.row_word-word.ensures) c.after_word.ensures }
+pairs_nest-requires c =
+    record { hops = c.requires.0; within = c.requires.1; is = rw (← c.row_word-word.ensures) c.after_word.ensures }
 
 pub closes-requires : goal.closes-requires
 closes-requires c = let hops = c.requires.0 in

@@ -1,6 +1,4 @@
 -- `join_nesting::rows_nest` meets its contract. Assumes nothing.
-use mathlib.Core.Path.{ap}
-use mathlib.Core.Bool.{not}
 use native.Mathlib.Omega.{arith}
 use borrow.Author.Count.{below_more}
 use Rattle.words.proofs.Exact.{yes-exact, no-exact, denied, granted}
@@ -12,13 +10,13 @@ loop-i-init c = (omega arith, λ m l. absurd (omega arith))
 
 pub returns-then-not-row_nests : goal.returns-then-not-row_nests
 returns-then-not-row_nests c = no-exact (λ h.
-    denied c.row_nests.ensures (ap not c.if-not-row_nests.true) (h.each _ (row-among _ _ (omega arith))))
+    denied c.row_nests.ensures c.if-not-row_nests.true (h.each _ (row-among _ _ (omega arith))))
 
 pub loop-i-preserved : goal.loop-i-preserved
 loop-i-preserved c = (
   omega arith,
   below_more _ _ c.loop-i.invariant.1
-      (granted c.row_nests.ensures (ap not c.if-not-row_nests.false)),
+      (granted c.row_nests.ensures c.if-not-row_nests.false),
 )
 
 pub returns : goal.returns

@@ -4,7 +4,8 @@ use Rattle.join_nesting.specs.Nesting.{RowNests}
 use Rattle.join_nesting.proofs.rows_nest.Given as goal
 
 abbrev pub invariant-loop-i : goal.invariant-loop-i
-invariant-loop-i l = (l.i ≤ l.n) × ((m : ℕ) → m < l.i → RowNests (table_of l.second).class (table_of l.first) (row_at l.first m))
+invariant-loop-i l =
+    (l.i ≤ l.n) × ((m : ℕ) → m < l.i → RowNests (table_of l.second).class (table_of l.first) (row_at l.first m))
 
 abbrev pub decreases-loop-i : goal.decreases-loop-i
 decreases-loop-i l = l.n - l.i

@@ -1,6 +1,4 @@
 -- `join_nesting::words_known` meets its contract. Assumes nothing.
-use mathlib.Core.Path.{ap}
-use mathlib.Core.Bool.{not}
 use native.Mathlib.Omega.{arith}
 use borrow.Author.Count.{below_more}
 use Rattle.words.specs.Lists.{Exact}
@@ -26,13 +24,14 @@ looked c = rw (← c.row_word.ensures) c.all_known.ensures
 
 pub returns-then-not-all_known : goal.returns-then-not-all_known
 returns-then-not-all_known c = no-exact (λ h.
-    denied (looked (goal.at.returns-then-not-all_known c).After-all_known) (ap not c.if-not-all_known.true) (h.each _ (row-among _ _ (omega arith))))
+    denied (looked (goal.at.returns-then-not-all_known c).After-all_known) c.if-not-all_known.true
+    (h.each _ (row-among _ _ (omega arith))))
 
 pub loop-i-preserved : goal.loop-i-preserved
 loop-i-preserved c = (
   omega arith,
   below_more _ _ c.loop-i.invariant.1
-      (granted (looked (goal.at.loop-i-preserved c).After-all_known) (ap not c.if-not-all_known.false)),
+      (granted (looked (goal.at.loop-i-preserved c).After-all_known) c.if-not-all_known.false),
 )
 
 pub returns : goal.returns

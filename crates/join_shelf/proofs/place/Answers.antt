@@ -51,9 +51,3 @@ loop-low-preserved c =
 
 pub returns : goal.returns
 returns c = narrowed-place c.requires c.loop-low.invariant (omega arith)
-
-pub loop-low-smaller-in-Before : goal.loop-low-smaller-in-Before
-loop-low-smaller-in-Before c = omega arith
-
-pub loop-low-smaller : goal.loop-low-smaller
-loop-low-smaller c = omega arith

@@ -1,11 +1,11 @@
 -- `join_shelf::put_in` meets its contract. Assumes nothing.
-use mathlib.Core.Path.{◌≡◌, refl, sym, ◌∙◌}
-use mathlib.Core.Bool.{false≢true}
+use mathlib.Core.Path.{◌≡◌, refl}
 use mathlib.Core.Logic.{inl, inr}
 use mathlib.Core.List.{List, ◌++◌}
 use Prim.Native.Nat.{ℕ, ◌+◌, ◌<◌}
 use native.Mathlib.Omega.{arith}
 use lib.ListN.{length, length-append}
+use Rattle.words.proofs.Exact.{denied}
 use Rattle.join_shelf.specs.Shelved.{word_at, Held, SomeShelved}
 use Rattle.join_shelf.specs.declared.Shelf.TheVariants.{Made}
 use Rattle.join_shelf.proofs.Rooms.{held_same, held_new, more-words, more_bytes}
@@ -20,7 +20,7 @@ long c = length-append c.args.head.now c.args.tail.now
 
 new : (c : Else-stands) → c.place-at.result < c.args.count
     → c.args.head.now ++ c.args.tail.now ≡ word_at c.args.room.now c.place-at.result → ⊥
-new c l e = false≢true (sym c.if-stands.false ∙ c.stands.ensures.0 (l, e))
+new c l e = denied c.stands.ensures c.if-stands.false (l, e)
 
 -- what was put before stands
 held-before : {room : List ℕ} {count used : ℕ} (s : SomeShelved room (Made count used)) → Held s.0 room count used

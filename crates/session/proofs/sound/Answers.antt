@@ -1,6 +1,4 @@
 -- `session::sound` meets its contract: each rule is looked at where those before it hold. Assumes nothing.
-use mathlib.Core.Path.{ap}
-use mathlib.Core.Bool.{not}
 use native.Mathlib.Omega.{arith}
 use Rattle.words.proofs.Exact.{denied, granted}
 use Rattle.session_meaning.proofs.ByPlace.{by_place, not_sound}
@@ -20,15 +18,16 @@ pub returns-then-count-gt64 : goal.returns-then-count-gt64
 returns-then-count-gt64 c = not_sound (lent (goal.at.returns-then-count-gt64 c).After-count-count) (λ p. omega arith)
 
 pub returns-then-depth_cap-depth : goal.returns-then-depth_cap-depth
-returns-then-depth_cap-depth c = not_sound (lent (goal.at.returns-then-depth_cap-depth c).After-count-count) (λ p. omega arith)
+returns-then-depth_cap-depth c =
+    not_sound (lent (goal.at.returns-then-depth_cap-depth c).After-count-count) (λ p. omega arith)
 
 pub returns-then-not-links : goal.returns-then-not-links
 returns-then-not-links c = not_sound (lent (goal.at.returns-then-not-links c).After-count-count)
-    (λ p. denied c.links.ensures (ap not c.if-not-links.true) p.links)
+    (λ p. denied c.links.ensures c.if-not-links.true p.links)
 
 pub on_links-requires : goal.on_links-requires
 on_links-requires c =
-    let links = granted c.links.ensures (ap not c.if-not-links.false) in
+    let links = granted c.links.ensures c.if-not-links.false in
     record {
       good_file = (c.requires, omega arith, omega (arith, shallow c.requires));
       lent = (lent (goal.at.on_links-requires c).After-count-count, links);
@@ -45,7 +44,7 @@ returns c = let sound = by_place (lent (goal.at.returns c).After-count-count) in
       (record {
         depth = omega arith;
         count = (omega arith, omega arith);
-        links = granted c.links.ensures (ap not c.if-not-links.false);
+        links = granted c.links.ensures c.if-not-links.false;
         groups = rest.groups;
         waiting = rest.waiting;
         unused = rest.unused;

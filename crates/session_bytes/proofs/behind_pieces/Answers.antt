@@ -1,6 +1,4 @@
 -- `session_bytes::behind_pieces` meets its contract. Assumes nothing.
-use mathlib.Core.Path.{ap}
-use mathlib.Core.Bool.{not}
 use native.Mathlib.Omega.{arith}
 use borrow.Author.Count.{below_more}
 use Rattle.words.proofs.Exact.{yes-exact, no-exact, denied, granted}
@@ -13,12 +11,13 @@ pub behind_piece-requires : goal.behind_piece-requires
 behind_piece-requires c = (c.requires.0, omega arith, c.requires.1.short _ (omega arith))
 
 pub returns-then-not-behind_piece : goal.returns-then-not-behind_piece
-returns-then-not-behind_piece c = no-exact (λ b. denied c.behind_piece.ensures (ap not c.if-not-behind_piece.true) (b.each _ (omega arith)))
+returns-then-not-behind_piece c =
+    no-exact (λ b. denied c.behind_piece.ensures c.if-not-behind_piece.true (b.each _ (omega arith)))
 
 pub loop-i-preserved : goal.loop-i-preserved
 loop-i-preserved c = let past = c.loop-i.invariant.1 in (
   omega arith,
-  record { each = below_more _ _ past.each (granted c.behind_piece.ensures (ap not c.if-not-behind_piece.false)) },
+  record { each = below_more _ _ past.each (granted c.behind_piece.ensures c.if-not-behind_piece.false) },
 )
 
 pub returns : goal.returns

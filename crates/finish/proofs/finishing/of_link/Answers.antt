@@ -1,5 +1,4 @@
 -- `finish::finishing::of_link` meets its contract. Assumes nothing.
-use mathlib.Core.Bool.{not}
 use mathlib.Core.Path.{ap}
 use native.Mathlib.Omega.{arith}
 use lib.ListN.{length}
@@ -12,7 +11,8 @@ pub like-requires : goal.like-requires
 like-requires c = (found-measured c.requires, c.requires.within)
 
 pub returns-then-not-like : goal.returns-then-not-like
-returns-then-not-like c = ended c.refused.ensures (ended-ambiguous c.requires _ (denied c.like.ensures (ap not c.if-not-like.true)))
+returns-then-not-like c =
+    ended c.refused.ensures (ended-ambiguous c.requires _ (denied c.like.ensures c.if-not-like.true))
 
 pub piece-rest-requires : goal.piece-rest-requires
 piece-rest-requires c = let m = found-measured c.requires in
@@ -20,10 +20,10 @@ piece-rest-requires c = let m = found-measured c.requires in
 
 pub returns-then-out-count : goal.returns-then-out-count
 returns-then-out-count c = ended c.refused-then-out-count.ensures
-    (ended-no-room c.requires _ (granted c.like.ensures (ap not c.if-not-like.false))
+    (ended-no-room c.requires _ (granted c.like.ensures c.if-not-like.false)
     (omega (arith, ap length c.piece-rest.ensures)))
 
 pub returns : goal.returns
 returns c = ended c.taken.ensures
-    (ended-taken c.requires _ (granted c.like.ensures (ap not c.if-not-like.false)) c.piece-rest.ensures (omega arith)
+    (ended-taken c.requires _ (granted c.like.ensures c.if-not-like.false) c.piece-rest.ensures (omega arith)
     c.send.ensures)

@@ -22,8 +22,13 @@ closed c =
 
 pub returns-then-i-count : goal.returns-then-i-count
 returns-then-i-count c = ended c.refused-then-i-count.ensures
-    (ended-not-final (closed (goal.at.returns-then-i-count c).After-final_set-finals) _ c.first_final-i.ensures (omega arith))
+    (ended-not-final (closed (goal.at.returns-then-i-count c).After-final_set-finals) _ c.first_final-i.ensures
+    (omega arith))
 
 pub of_link-requires : goal.of_link-requires
 of_link-requires c = let place = c.first_final-i.ensures in
-    record { closed = closed (goal.at.of_link-requires c).After-final_set-finals; place = place; within = omega (arith, place.within) }
+    record {
+      closed = closed (goal.at.of_link-requires c).After-final_set-finals;
+      place = place;
+      within = omega (arith, place.within);
+    }

@@ -10,10 +10,16 @@ pub loop-row-init : goal.loop-row-init
 loop-row-init c = (omega arith, passing-start)
 
 pub gather_row-made-requires : goal.gather_row-made-requires
-gather_row-made-requires c = record { small = (c.requires.small, omega (arith, c.loop-row-test.true, c.row_count-n.ensures)); marked = c.requires.marked; some_shelved = passing-ready c.loop-row.invariant.1 ([], c.start-made.ensures _) }
+gather_row-made-requires c =
+    record {
+      small = (c.requires.small, omega (arith, c.loop-row-test.true, c.row_count-n.ensures));
+      marked = c.requires.marked;
+      some_shelved = passing-ready c.loop-row.invariant.1 ([], c.start-made.ensures _);
+    }
 
 pub loop-row-preserved : goal.loop-row-preserved
-loop-row-preserved c = (omega (arith, c.loop-row-test.true), passing-next c.loop-row.invariant.1 c.gather_row-made.ensures)
+loop-row-preserved c =
+    (omega (arith, c.loop-row-test.true), passing-next c.loop-row.invariant.1 c.gather_row-made.ensures)
 
 pub returns : goal.returns
 returns c = passing-end c.loop-row.invariant.1 (row_count c.args.first.now)

@@ -66,7 +66,8 @@ return_rows-requires c =
 
 pub returns-in-Skip : goal.returns-in-Skip
 returns-in-Skip c = gathers-as gathers-none
-    (plan-skip c.args.first.now c.args.second.now c.args.at.row c.args.at.state c.args.wanted (class-of (goal.at.returns-in-Skip c).After-planned) refl
+    (plan-skip c.args.first.now c.args.second.now c.args.at.row c.args.at.state c.args.wanted
+    (class-of (goal.at.returns-in-Skip c).After-planned) refl
     (is (goal.at.returns-in-Skip c).After-planned c.in-Skip.is))
 
 pub returns-in-Read : goal.returns-in-Read

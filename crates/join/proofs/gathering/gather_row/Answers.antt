@@ -20,7 +20,8 @@ gather_at-made-requires c = record {
 }
 
 pub loop-state-preserved : goal.loop-state-preserved
-loop-state-preserved c = (omega (arith, c.loop-state-test.true), passing-next c.loop-state.invariant.1 c.gather_at-made.ensures)
+loop-state-preserved c =
+    (omega (arith, c.loop-state-test.true), passing-next c.loop-state.invariant.1 c.gather_at-made.ensures)
 
 pub returns : goal.returns
 returns c = passing-end c.loop-state.invariant.1 (table_of c.args.second.now).states

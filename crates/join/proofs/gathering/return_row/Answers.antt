@@ -35,8 +35,14 @@ bounds-key-0 c = omega (arith, (long (goal.at.bounds-key-0 c).After-word-key).0)
 
 pub returns-then-wide-row_marker : goal.returns-then-wide-row_marker
 returns-then-wide-row_marker c = gathers-as gathers-none
-    (return-other c.args.first.now c.args.second.now c.args.at.row c.args.at.state (mark_of (key_of (goal.at.returns-then-wide-row_marker c).After-word-key))
-    (λ e. omega (arith, head-is (goal.at.returns-then-wide-row_marker c).After-wide, c.row_marker.ensures, c.if-wide-row_marker.true)))
+    (return-other c.args.first.now c.args.second.now c.args.at.row c.args.at.state
+    (mark_of (key_of (goal.at.returns-then-wide-row_marker c).After-word-key))
+    (λ e. omega (
+      arith,
+      head-is (goal.at.returns-then-wide-row_marker c).After-wide,
+      c.row_marker.ensures,
+      c.if-wide-row_marker.true,
+    )))
 
 pub slice_bounds-left-count : goal.slice_bounds-left-count
 slice_bounds-left-count c = omega (arith, (long (goal.at.slice_bounds-left-count c).After-word-key).0)
@@ -53,7 +59,9 @@ row_word-read_word-requires c = let at = c.requires.at in
 
 pub read-requires : goal.read-requires
 read-requires c = record {
-  reads = row_reads c.args.first.now c.args.second.now c.args.at.row _ c.row_word-read_word.ensures _ _ c.requires.at (left-long (goal.at.read-requires c).After-word-key);
+  reads =
+      row_reads c.args.first.now c.args.second.now c.args.at.row _ c.row_word-read_word.ensures _ _ c.requires.at
+      (left-long (goal.at.read-requires c).After-word-key);
   ranked = rw c.close_goal-goal.ensures tt;
   suited = rw c.close_goal-goal.ensures
       (row-suited c.args.first.now c.args.second.now c.args.at.row _ c.row_word-read_word.ensures _

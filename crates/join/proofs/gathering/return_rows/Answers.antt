@@ -8,7 +8,12 @@ pub loop-i-init : goal.loop-i-init
 loop-i-init c = (omega arith, passing-start)
 
 pub return_row-made-requires : goal.return_row-made-requires
-return_row-made-requires c = record { at = c.requires.at.0; mark_here = record { count = _; all = c.requires.all_marks; within = omega (arith, c.loop-i-test.true) }; some_shelved = passing-ready c.loop-i.invariant.1 c.requires.some_shelved }
+return_row-made-requires c =
+    record {
+      at = c.requires.at.0;
+      mark_here = record { count = _; all = c.requires.all_marks; within = omega (arith, c.loop-i-test.true) };
+      some_shelved = passing-ready c.loop-i.invariant.1 c.requires.some_shelved;
+    }
 
 pub loop-i-preserved : goal.loop-i-preserved
 loop-i-preserved c = (omega (arith, c.loop-i-test.true), passing-next c.loop-i.invariant.1 c.return_row-made.ensures)

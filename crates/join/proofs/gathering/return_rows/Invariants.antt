@@ -6,7 +6,8 @@ use Rattle.join.proofs.gathering.return_rows.Given as goal
 
 abbrev pub invariant-loop-i : goal.invariant-loop-i
 invariant-loop-i l = (l.i ≤ l.count)
-    × Passing (λ i. given_from l.first l.second l.at.row l.at.state (mark_of (word_at l.marks i))) l.initial.rows l.initial.made l.i l.rows l.made
+    × Passing (λ i. given_from l.first l.second l.at.row l.at.state (mark_of (word_at l.marks i))) l.initial.rows
+    l.initial.made l.i l.rows l.made
 
 abbrev pub decreases-loop-i : goal.decreases-loop-i
 decreases-loop-i l = l.count - l.i

@@ -1,8 +1,8 @@
 -- `join::hops::join_in` meets its contract: what is known after each test. Assumes nothing.
-use mathlib.Core.Bool.{Bool, true, not, false≢true}
+use mathlib.Core.Bool.{Bool, true}
 use mathlib.Core.List.{List, []}
 use mathlib.Core.Logic.{inl, inr}
-use mathlib.Core.Path.{◌≡◌, sym, ◌∙◌, ap}
+use mathlib.Core.Path.{◌≡◌}
 use Prim.Native.Nat.{ℕ, ◌*◌, ◌<◌}
 use native.Mathlib.Omega.{arith}
 use lib.ListN.{get_or}
@@ -30,9 +30,9 @@ both : {one two : List ℕ} {g h : Bool} → Exact (GoodFile edition one) g → 
     → g ≡ true → h ≡ true → ((k : ℕ) → get_or one k 0 < 256) → ((k : ℕ) → get_or two k 0 < 256) → Hops one two
 both e f g h a b =
     record {
-      first = granted e (ap not g);
+      first = granted e g;
       first-bytes = byte-get_or _ a;
-      second = granted f (ap not h);
+      second = granted f h;
       second-bytes = byte-get_or _ b;
     }
 
@@ -48,13 +48,13 @@ pub returns-then-not-nests : goal.returns-then-not-nests
 returns-then-not-nests c =
     let h = both-good (goal.at.returns-then-not-nests c).Else-not-good-2 in
     answered c.refused.ensures
-    (joins-not-nested _ _ _ h.first h.second (denied c.nests.ensures (ap not c.if-not-nests.true)))
+    (joins-not-nested _ _ _ h.first h.second (denied c.nests.ensures c.if-not-nests.true))
 
 pub returns-then-long_words : goal.returns-then-long_words
 returns-then-long_words c =
     let h = both-good (goal.at.returns-then-long_words c).Else-not-good-2 in
     answered c.refused-too_large.ensures
-    (joins-too-large _ _ _ h.first h.second (granted c.nests.ensures (ap not c.if-not-nests.false))
+    (joins-too-large _ _ _ h.first h.second (granted c.nests.ensures c.if-not-nests.false)
     (inl (c.long_words.ensures.1 c.if-long_words.true)))
 
 pub overflow_mul-states : goal.overflow_mul-states
@@ -66,7 +66,7 @@ pub returns-then-states-gt64 : goal.returns-then-states-gt64
 returns-then-states-gt64 c =
     let h = both-good (goal.at.returns-then-states-gt64 c).Else-not-good-2 in
     answered c.refused-too_large.ensures
-    (joins-too-large _ _ _ h.first h.second (granted c.nests.ensures (ap not c.if-not-nests.false))
+    (joins-too-large _ _ _ h.first h.second (granted c.nests.ensures c.if-not-nests.false)
     (inr (inl (rw (c.states.ensures, c.states-2.ensures) at c.if-states-gt64.true))))
 
 -- neither words nor states are too large
@@ -80,10 +80,10 @@ small-enough c =
             (λ k. omega (arith, c.type_inv.first k)) (λ k. omega (arith, c.type_inv.second k));
         words =
             not-long 16 (table_of c.args.first.now)
-            (λ l. false≢true (sym c.if-long_words.false ∙ c.long_words.ensures.0 l));
+            (denied c.long_words.ensures c.if-long_words.false);
         states = omega (arith, states-are, c.if-states-gt64.false);
       };
-      nest = granted c.nests.ensures (ap not c.if-not-nests.false);
+      nest = granted c.nests.ensures c.if-not-nests.false;
     }
 
 pub gather-requires-clause-small : goal.gather-requires-clause-small

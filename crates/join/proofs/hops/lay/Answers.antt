@@ -1,8 +1,8 @@
 -- `join::hops::lay` meets its contract. Assumes nothing.
-use mathlib.Core.Path.{refl, sym, ◌∙◌}
-use mathlib.Core.Bool.{false≢true}
+use mathlib.Core.Path.{refl}
 use Prim.Native.Nat.{◌-◌, ◌*◌}
 use native.Mathlib.Omega.{arith}
+use Rattle.words.proofs.Exact.{denied}
 use Rattle.join_file.specs.declared.Sizes.{Sizes}
 use Rattle.join.specs.Hopping.{LongKey}
 use Rattle.join.proofs.Hopped.{hopped-used, hopped-long, hopped-words, hopped-no-room, hopped-laying}
@@ -27,7 +27,7 @@ overflow_sub-words c = omega (arith, hopped-used c.requires)
 -- no key is long
 short : (c : Else-long_rows)
     → LongKey c.args.rows.now c.args.count → ⊥
-short c k = false≢true (sym c.if-long_rows.false ∙ c.long_rows.ensures.0 k)
+short c = denied c.long_rows.ensures c.if-long_rows.false
 
 pub returns-then-words-gt4096 : goal.returns-then-words-gt4096
 returns-then-words-gt4096 c = answered c.refused-then-words-gt4096.ensures (hopped-words c.requires _ (omega arith))
@@ -42,12 +42,21 @@ pub overflow_add-count-2 : goal.overflow_add-count-2
 overflow_add-count-2 c = omega (arith, c.requires.held.standing.few)
 
 pub returns-then-out-count : goal.returns-then-out-count
-returns-then-out-count c = answered c.refused-then-out-count.ensures (hopped-no-room c.requires _ (short (goal.at.returns-then-out-count c).Else-long_rows) (omega arith) (omega arith))
+returns-then-out-count c =
+    answered c.refused-then-out-count.ensures (hopped-no-room c.requires _
+    (short (goal.at.returns-then-out-count c).Else-long_rows) (omega arith) (omega arith))
 
 pub write-requires : goal.write-requires
-write-requires c = hopped-laying c.requires _ (short (goal.at.write-requires c).Else-long_rows) (omega arith) (omega arith) _ refl refl (omega arith)
+write-requires c =
+    hopped-laying c.requires _ (short (goal.at.write-requires c).Else-long_rows) (omega arith)
+    (omega arith) _ refl refl (omega arith)
 
 pub returns : goal.returns
-returns c = let sizes : Sizes = record { markers = c.args.markers; rows = c.args.count; words = c.args.used - 4 * c.args.count } in
+returns c =
+    let sizes : Sizes = record {
+      markers = c.args.markers;
+      rows = c.args.count;
+      words = c.args.used - 4 * c.args.count;
+    } in
     hopped-taken c.requires _ (short (goal.at.returns c).Else-long_rows) (omega arith) (omega arith) sizes refl refl refl
     c.write.ensures

@@ -1,7 +1,6 @@
 -- The cycle of calls of `branch` and `read` (`join::reading`): a branch reads what is left of the word, and a reading
 -- has a branch for each row of the word's first byte, so that the word gets shorter.
 -- Assumes nothing.
-use mathlib.Core.Bool.{not}
 use mathlib.Core.List.{List, reverse}
 use mathlib.Core.Path.{◌≡◌, sym, ◌∙◌, ap}
 use Prim.Native.Nat.{ℕ, ◌-◌, ◌<◌, ◌≤◌}
@@ -33,7 +32,7 @@ branch-returns-then-full-clause-gathers t c = gathers-still _ (c.full.ensures.1 
 pub branch-returns-then-not-fits-clause-gathers : goal.branch-returns-then-not-fits-clause-gathers
 branch-returns-then-not-fits-clause-gathers t c =
     let a = c.args in
-    let none = taken_none c.fits.ensures.within (denied c.fits.ensures.exact (ap not c.if-not-fits.true)) in
+    let none = taken_none c.fits.ensures.within (denied c.fits.ensures.exact c.if-not-fits.true) in
     gathers-as gathers-none
     (ap (findings_of a.second.now (marks_of a.marks.now a.goal) a.goal a.rest.now) (sym none))
 
@@ -42,7 +41,7 @@ branch-read-made-requires t c =
     let a = c.args in
     let pre = c.requires.branches in
     let near = height-near (meant a.turn.class) a.turn.cursor.height in
-    let fit = granted c.fits.ensures.exact (ap not c.if-not-fits.false) in
+    let fit = granted c.fits.ensures.exact c.if-not-fits.false in
     let next =
     moved fit c.exchange-kept.ensures c.row_marker.ensures c.row_to.ensures c.height_after.ensures
     c.append-end.ensures (omega (arith, pre.high)) pre.behind in (
@@ -68,7 +67,7 @@ pub branch-returns-clause-gathers : goal.branch-returns-clause-gathers
 branch-returns-clause-gathers t c =
     let a = c.args in
     let pre = c.requires.branches in
-    let fit = granted c.fits.ensures.exact (ap not c.if-not-fits.false) in
+    let fit = granted c.fits.ensures.exact c.if-not-fits.false in
     gathers-as c.read-made.ensures.gathers
     (findings-one a.second.now (marks_of a.marks.now a.goal) a.goal a.rest.now
     (moved fit c.exchange-kept.ensures c.row_marker.ensures c.row_to.ensures c.height_after.ensures

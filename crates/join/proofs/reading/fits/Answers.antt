@@ -31,4 +31,5 @@ returns-else-height-eq0 c = rw c.in-Return.is
     })
 
 pub returns-in-Internal : goal.returns-in-Internal
-returns-in-Internal c = rw c.in-Internal.is (record { within = omega arith; exact = yes-exact (fits-internal (omega arith)) })
+returns-in-Internal c =
+    rw c.in-Internal.is (record { within = omega arith; exact = yes-exact (fits-internal (omega arith)) })

@@ -28,7 +28,8 @@ loop-i-preserved c = let inv = c.loop-i.invariant in
     let level = ap (λ (k : ℕ). k + 1) c.level.ensures.0 in (
       inv.0,
       omega arith,
-      found-next c.requires inv.2 (omega arith) _ _ level (omega arith) (omega (arith, room (goal.at.loop-i-preserved c).After-level)),
+      found-next c.requires inv.2 (omega arith) _ _ level (omega arith)
+          (omega (arith, room (goal.at.loop-i-preserved c).After-level)),
     )
 
 pub returns : goal.returns

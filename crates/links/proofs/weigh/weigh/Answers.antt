@@ -22,7 +22,8 @@ most_on-above-requires c = let levels = c.requires.levelled.0 in
     }
 
 pub long-own-requires : goal.long-own-requires
-long-own-requires c = (c.requires.levelled.0.graded.whole, omega (arith, c.requires.i_bound.0, c.requires.levelled.0.graded.few))
+long-own-requires c =
+    (c.requires.levelled.0.graded.whole, omega (arith, c.requires.i_bound.0, c.requires.levelled.0.graded.few))
 
 load : (c : After-long-own)
     → c.long-own.result + c.most_on-above.result ≡ load_at c.args.bytes.now c.args.i
@@ -33,10 +34,22 @@ load c =
     (heaviest-from levels c.most_on-above.ensures (omega (arith, past)))
 
 pub overflow_add-all : goal.overflow_add-all
-overflow_add-all c = omega (arith, load (goal.at.overflow_add-all c).After-long-own, loads-small c.requires.levelled.1 _ c.requires.i_bound.0, c.requires.levelled.0.graded.few)
+overflow_add-all c =
+    omega (
+      arith,
+      load (goal.at.overflow_add-all c).After-long-own,
+      loads-small c.requires.levelled.1 _ c.requires.i_bound.0,
+      c.requires.levelled.0.graded.few,
+    )
 
 pub overflow_cast-all : goal.overflow_cast-all
-overflow_cast-all c = omega (arith, load (goal.at.overflow_cast-all c).After-long-own, loads-small c.requires.levelled.1 _ c.requires.i_bound.0, c.requires.levelled.0.graded.few)
+overflow_cast-all c =
+    omega (
+      arith,
+      load (goal.at.overflow_cast-all c).After-long-own,
+      loads-small c.requires.levelled.1 _ c.requires.i_bound.0,
+      c.requires.levelled.0.graded.few,
+    )
 
 pub offset_bounds-all-i : goal.offset_bounds-all-i
 offset_bounds-all-i c = omega (arith, c.requires.levelled.0.graded.few)
@@ -45,4 +58,6 @@ pub bounds-all-i : goal.bounds-all-i
 bounds-all-i c = omega (arith, c.requires.levelled.0.graded.few)
 
 pub returns : goal.returns
-returns c = weighed-next _ c.requires.i_bound.1 (omega (arith, c.requires.levelled.0.graded.few)) (load (goal.at.returns c).After-long-own)
+returns c =
+    weighed-next _ c.requires.i_bound.1 (omega (arith, c.requires.levelled.0.graded.few))
+    (load (goal.at.returns c).After-long-own)

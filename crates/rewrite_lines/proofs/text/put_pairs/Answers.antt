@@ -8,7 +8,15 @@ pub put_pair-end-requires : goal.put_pair-end-requires
 put_pair-end-requires c =
     let bytes = c.args.bytes.now in
     let put = c.loop-i.invariant.1 in
-    record { fits = omega (arith, hex-long bytes, hex-first bytes c.loop-i.i (omega arith), put.next, appended-whole put) }
+    record {
+      fits = omega (
+        arith,
+        hex-long bytes,
+        hex-first bytes c.loop-i.i (omega arith),
+        put.next,
+        appended-whole put,
+      );
+    }
 
 pub loop-i-preserved : goal.loop-i-preserved
 loop-i-preserved c = (

@@ -29,7 +29,9 @@ pub overflow_add-i : goal.overflow_add-i
 overflow_add-i c = omega (arith, room (goal.at.overflow_add-i c).After-without_lowest-rest)
 
 pub loop-rest-preserved : goal.loop-rest-preserved
-loop-rest-preserved c = starting-more c.loop-rest.invariant (next (goal.at.loop-rest-preserved c).After-without_lowest-rest) c.add_start.ensures
+loop-rest-preserved c =
+    starting-more c.loop-rest.invariant (next (goal.at.loop-rest-preserved c).After-without_lowest-rest)
+    c.add_start.ensures
 
 pub returns : goal.returns
 returns c = starting-all c.loop-rest.invariant (omega arith)

@@ -1,7 +1,5 @@
 -- `session::rules::apart` meets its contract: the pieces passed begin with `first`, and none outside the level has the
 -- foot. Assumes nothing.
-use mathlib.Core.Path.{ap}
-use mathlib.Core.Bool.{not}
 use Prim.Native.Nat.{◌+◌}
 use native.Mathlib.Omega.{arith}
 use Rattle.words.proofs.Exact.{yes-exact, no-exact, denied, granted}
@@ -32,7 +30,7 @@ foot-requires c = (c.requires.1.graded.whole, omega arith)
 pub returns-then-not-agrees : goal.returns-then-not-agrees
 returns-then-not-agrees c = yes-exact
     (heads-apart c.loop-j.invariant.3 _ c.head-head.ensures (omega arith) (omega arith)
-    (denied c.agrees.ensures (ap not c.if-not-agrees.true)))
+    (denied c.agrees.ensures c.if-not-agrees.true))
 
 pub loop-j-preserved : goal.loop-j-preserved
 loop-j-preserved c =
@@ -42,7 +40,7 @@ loop-j-preserved c =
       inv.2,
       elim c.if-foot.branch [
         | then-foot+else-not-agrees w ↦
-            let agrees = granted w.agrees.ensures (ap not w.if-not-agrees.false) in
+            let agrees = granted w.agrees.ensures w.if-not-agrees.false in
             rw w.first-is (heads-next inv.3 _ w.head-head.ensures (omega arith) agrees)
         | else-foot w ↦ rw w.first-is (heads-skip inv.3 (λ e. omega arith))
       ],

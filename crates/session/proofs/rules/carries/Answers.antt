@@ -22,7 +22,11 @@ pub seat-requires : goal.seat-requires
 seat-requires c = (c.requires.session_len.1.graded.whole, omega (arith, c.requires.session_len.1.graded.few))
 
 pub apart-requires : goal.apart-requires
-apart-requires c = (c.requires.session_len.0, c.requires.session_len.1, seat-low c.requires.session_len.1 _ c.requires.i_bound c.seat.ensures)
+apart-requires c = (
+  c.requires.session_len.0,
+  c.requires.session_len.1,
+  seat-low c.requires.session_len.1 _ c.requires.i_bound c.seat.ensures,
+)
 
 pub returns : goal.returns
 returns c = let bytes = c.args.session.now in

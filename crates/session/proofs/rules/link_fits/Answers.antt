@@ -1,6 +1,4 @@
 -- `session::rules::link_fits` meets its contract. Assumes nothing.
-use mathlib.Core.Bool.{not}
-use mathlib.Core.Path.{ap}
 use native.Mathlib.Omega.{arith}
 use borrow.Author.Tests.{eq-eqb, eqb-true}
 use Rattle.words.proofs.Exact.{yes-exact, no-exact, denied, granted}
@@ -22,11 +20,11 @@ pub returns-then-not-mark_fits : goal.returns-then-not-mark_fits
 returns-then-not-mark_fits c = no-exact
     (λ h.
     let z = h.ranges.zero in
-    denied c.mark_fits.ensures (ap not c.if-not-mark_fits.true)
+    denied c.mark_fits.ensures c.if-not-mark_fits.true
     (λ m. let l = z.0 (omega arith) in omega arith, λ l. let m = z.1 (omega arith) in omega arith))
 
 pub returns-then-level-gt0 : goal.returns-then-level-gt0
-returns-then-level-gt0 c = let z = granted c.mark_fits.ensures (ap not c.if-not-mark_fits.false) in
+returns-then-level-gt0 c = let z = granted c.mark_fits.ensures c.if-not-mark_fits.false in
     yes-exact
     (record {
       level = omega arith;
@@ -40,7 +38,7 @@ returns-then-level-gt0 c = let z = granted c.mark_fits.ensures (ap not c.if-not-
     })
 
 pub returns : goal.returns
-returns c = let z = granted c.mark_fits.ensures (ap not c.if-not-mark_fits.false) in (
+returns c = let z = granted c.mark_fits.ensures c.if-not-mark_fits.false in (
   λ h. let b = h.below (omega arith) in eq-eqb c.foot.result 0 (omega arith),
   λ t.
       let f = eqb-true c.foot.result 0 t in

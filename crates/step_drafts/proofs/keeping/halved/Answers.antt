@@ -27,7 +27,8 @@ loop-low-preserved-then-is_below c = let inv = c.loop-low.invariant in (
   omega arith,
   inv.1,
   inv.2,
-  beneath-upto (middle (goal.at.loop-low-preserved-then-is_below c).In-loop-low) (keys-rise c.requires.0 c.requires.1) (omega (arith, inv.1, c.requires.2))
+  beneath-upto (middle (goal.at.loop-low-preserved-then-is_below c).In-loop-low) (keys-rise c.requires.0 c.requires.1)
+      (omega (arith, inv.1, c.requires.2))
       (c.is_below.ensures.1 c.if-is_below.true),
   inv.4,
 )
@@ -45,12 +46,3 @@ pub returns : goal.returns
 returns c = let inv = c.loop-low.invariant in
     let e : c.loop-low.low ≡ c.loop-low.high = omega arith in
     beneath-place inv.3 (omega (arith, inv.1)) (rw e inv.4)
-
-pub overflow_add-middle : goal.overflow_add-middle
-overflow_add-middle c = omega arith
-
-pub is_below-requires : goal.is_below-requires
-is_below-requires c = omega arith
-
-pub overflow_add-low : goal.overflow_add-low
-overflow_add-low c = omega arith

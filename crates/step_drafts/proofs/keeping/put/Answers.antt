@@ -2,9 +2,9 @@
 use mathlib.Core.Path.{◌≡◌, sym, ◌∙◌}
 use Prim.Native.Nat.{◌≤◌, ◌<◌}
 use native.Mathlib.Omega.{arith}
-use mathlib.Core.Bool.{false≢true}
 use mathlib.Core.List.{◌++◌}
 use lib.ListN.{length-append}
+use Rattle.words.proofs.Exact.{denied}
 use Rattle.words.specs.Words.{Word}
 use Rattle.session_meaning.specs.Bytes.{link_count}
 use Rattle.session_meaning.specs.Numbers.{key_at}
@@ -30,7 +30,7 @@ few c = c.requires.drafted.0.few
 new : (c : Joined-at-n) → c.place-at.result < c.count-n.result
     → key_at c.args.work.now c.place-at.result ≡ key_of c.args.link → ⊥
 new c h e = elim c.if-at-n.branch [
-  | then-at-n+else-is_here w ↦ false≢true (sym w.if-is_here.false ∙ w.is_here.ensures.0 e)
+  | then-at-n+else-is_here w ↦ denied w.is_here.ensures w.if-is_here.false e
   | else-at-n w ↦ omega arith
 ]
 
@@ -54,7 +54,7 @@ returns-then-is_here c = let pre = c.requires.drafted in
       became =
           other-piece pre.0 pre.1 (all p) pre.2 c.place-at.ensures (parts p) c.if-at-n.true
           (c.is_here.ensures.1 c.if-is_here.true)
-          (λ e. false≢true (sym c.if-same_piece.false ∙ c.same_piece.ensures.0 (c.piece.ensures ∙ e)));
+          (λ e. denied c.same_piece.ensures c.if-same_piece.false (c.piece.ensures ∙ e));
     }
 
 pub returns-then-n-eq64 : goal.returns-then-n-eq64

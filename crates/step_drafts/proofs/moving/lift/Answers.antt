@@ -20,6 +20,3 @@ loop-i-preserved c = let carry = c.carry.ensures in (
 pub returns : goal.returns
 returns c = let e : c.loop-i.i ≡ c.args.at = omega arith in
     rw (← e) c.loop-i.invariant.2
-
-pub overflow_add-i : goal.overflow_add-i
-overflow_add-i c = omega arith

@@ -15,7 +15,11 @@ pub bounds-work-at : goal.bounds-work-at
 bounds-work-at c = omega (arith, c.loop-i.invariant.1.whole)
 
 pub loop-i-preserved : goal.loop-i-preserved
-loop-i-preserved c = (omega arith, within_more _ _ _ _ c.requires.many_in_bounds.0 c.requires.many_in_bounds.1 c.requires.fact (omega arith) c.loop-i.invariant.1)
+loop-i-preserved c = (
+  omega arith,
+  within_more _ _ _ _ c.requires.many_in_bounds.0 c.requires.many_in_bounds.1 c.requires.fact
+      (omega arith) c.loop-i.invariant.1,
+)
 
 pub shape_of-work : goal.shape_of-work
 shape_of-work c = c.loop-i.invariant.1.whole

@@ -10,7 +10,8 @@ pub loop-i-init : goal.loop-i-init
 loop-i-init c = (omega arith, omega arith, λ k l g e. omega arith)
 
 pub returns-then-foot-seat : goal.returns-then-foot-seat
-returns-then-foot-seat c = yes-exact (c.loop-i.i, c.loop-i.invariant.1, omega arith, sym c.foot.ensures ∙ c.if-foot-seat.true)
+returns-then-foot-seat c =
+    yes-exact (c.loop-i.i, c.loop-i.invariant.1, omega arith, sym c.foot.ensures ∙ c.if-foot-seat.true)
 
 pub returns-then-level : goal.returns-then-level
 returns-then-level c = let inv = c.loop-i.invariant in

@@ -18,13 +18,14 @@ write-requires c = let pre = c.requires.kept in record {
   i_bound = (
     omega arith,
     omega (arith, piece-fits _ pre.0 pre.1 c.piece-piece.ensures),
-    omega
-        (arith, c.slot-slot.ensures.1),
+    omega (arith, c.slot-slot.ensures.1),
   );
   bytes = (c.fill.ensures.bytes, five-small pre.0.small c.read-link.ensures);
 }
 
 pub returns : goal.returns
-returns c = lower-more _ c.requires.kept.0 c.requires.kept.1 c.requires.kept.2 c.requires.first_nonzero.0 c.requires.first_nonzero.1 c.piece-piece.ensures
+returns c =
+    lower-more _ c.requires.kept.0 c.requires.kept.1 c.requires.kept.2 c.requires.first_nonzero.0
+    c.requires.first_nonzero.1 c.piece-piece.ensures
     c.read-link.ensures
     c.slot-slot.ensures.0 refl c.fill.ensures.written c.write.ensures c.fill.ensures.bytes

@@ -1,10 +1,10 @@
 -- `step_drafts::shaking::shake` meets its contract. Assumes nothing.
-use mathlib.Core.Path.{refl, sym, subst, ◌∙◌}
+use mathlib.Core.Path.{refl, subst}
 use mathlib.Core.List.{List}
 use Prim.Native.Nat.{ℕ, ◌-◌}
 use native.Mathlib.Omega.{arith}
-use mathlib.Core.Bool.{false≢true}
 use mathlib.Core.Bool.{Bool}
+use Rattle.words.proofs.Exact.{denied}
 use Rattle.meaning.specs.Answers.{links_cap}
 use Rattle.session_meaning.specs.Sessions.{Entry}
 use Rattle.step_drafts.specs.Drafts.{drafts_in, drafts_of, shaken_over, ShakenTo}
@@ -54,7 +54,7 @@ loop-i-preserved-then-stays c = let left = c.if-first-eq0.false in
 
 pub loop-i-preserved : goal.loop-i-preserved
 loop-i-preserved c = shaking-past c.requires.kept.0.small c.loop-i.invariant _ (omega arith)
-    (λ h. false≢true (sym c.if-stays.false ∙ c.stays.ensures.0 h))
+    (denied c.stays.ensures c.if-stays.false)
 
 pub lower-requires : goal.lower-requires
 lower-requires c = let s = c.loop-i.invariant in (s.top, s.drafts.small)

@@ -20,15 +20,18 @@ class-told c =
 
 pub returns-then-class-eq0 : goal.returns-then-class-eq0
 unfolding table_of
-returns-then-class-eq0 c = sym (class-told (goal.at.returns-then-class-eq0 c).After-wide-class ∙ class-unused c.if-class-eq0.true)
+returns-then-class-eq0 c =
+    sym (class-told (goal.at.returns-then-class-eq0 c).After-wide-class ∙ class-unused c.if-class-eq0.true)
 
 pub returns-then-class-eq1 : goal.returns-then-class-eq1
 unfolding table_of
-returns-then-class-eq1 c = sym (class-told (goal.at.returns-then-class-eq1 c).After-wide-class ∙ class-call c.if-class-eq1.true)
+returns-then-class-eq1 c =
+    sym (class-told (goal.at.returns-then-class-eq1 c).After-wide-class ∙ class-call c.if-class-eq1.true)
 
 pub returns-then-class-eq2 : goal.returns-then-class-eq2
 unfolding table_of
-returns-then-class-eq2 c = sym (class-told (goal.at.returns-then-class-eq2 c).After-wide-class ∙ class-return c.if-class-eq2.true)
+returns-then-class-eq2 c =
+    sym (class-told (goal.at.returns-then-class-eq2 c).After-wide-class ∙ class-return c.if-class-eq2.true)
 
 pub returns : goal.returns
 unfolding table_of

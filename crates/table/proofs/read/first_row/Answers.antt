@@ -1,6 +1,4 @@
 -- `table::read::first_row` meets its contract: the row looked for lies from low to high. Assumes nothing.
-use mathlib.Core.Path.{ap}
-use mathlib.Core.Bool.{not}
 use native.Mathlib.Omega.{arith}
 use Rattle.words.proofs.Exact.{denied}
 use Rattle.table.proofs.Symbols.{between-all, between-up, between-down, between-one}
@@ -18,13 +16,7 @@ loop-low-preserved-then-row_before c = between-up _ c.requires.rows c.loop-low.i
 
 pub loop-low-preserved : goal.loop-low-preserved
 loop-low-preserved c = between-down _ c.requires.rows c.loop-low.invariant _ (omega arith) (omega arith)
-    (denied c.row_before.ensures (ap not c.if-row_before.false))
+    (denied c.row_before.ensures c.if-row_before.false)
 
 pub returns : goal.returns
 returns c = between-one c.loop-low.invariant (omega arith)
-
-pub overflow_add-middle : goal.overflow_add-middle
-overflow_add-middle c = omega arith
-
-pub overflow_add-low : goal.overflow_add-low
-overflow_add-low c = omega arith

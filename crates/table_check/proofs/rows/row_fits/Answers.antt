@@ -1,12 +1,10 @@
 -- `table_check::rows::row_fits` meets its contract. Assumes nothing.
-use mathlib.Core.Path.{ap}
-use mathlib.Core.Bool.{not}
 use native.Mathlib.Omega.{arith}
 use Rattle.words.proofs.Exact.{no-exact, yes-exact, denied, granted}
 use Rattle.table_check.proofs.rows.row_fits.Goals as goal
 
 pub returns-then-not-mark_fits : goal.returns-then-not-mark_fits
-returns-then-not-mark_fits c = no-exact (λ h. denied c.mark_fits.ensures (ap not c.if-not-mark_fits.true) h.marker)
+returns-then-not-mark_fits c = no-exact (λ h. denied c.mark_fits.ensures c.if-not-mark_fits.true h.marker)
 
 pub returns-then-states-wide : goal.returns-then-states-wide
 returns-then-states-wide c = no-exact (λ h. omega arith)
@@ -23,7 +21,7 @@ returns-then-wide-ne0 c = no-exact (λ h. omega arith)
 pub returns : goal.returns
 returns c = yes-exact
     (record {
-      marker = granted c.mark_fits.ensures (ap not c.if-not-mark_fits.false);
+      marker = granted c.mark_fits.ensures c.if-not-mark_fits.false;
       from = omega arith;
       to = omega arith;
       word = omega arith;
