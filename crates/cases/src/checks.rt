@@ -2,9 +2,11 @@
 ghost use Rattle.std.specs.Prelude.{◌<◌, ◌≤◌};
 
 use crate::lines::say;
+use crate::pairs::part;
 use crate::tables::{g, put};
-use numbers::is_taken;
+use numbers::number_of;
 use std::io;
+use table_check::check;
 
 pub(crate) fn all(rt: &impl Print) -> io::Result<()> {
     changed(rt, b"G", 0, b"")?;
@@ -20,14 +22,14 @@ pub(crate) fn all(rt: &impl Print) -> io::Result<()> {
 
 // The number that `check` gives back.
 pub(crate) fn number(file: &[u8]) -> u64 {
-    1 - taken(file)
+    u64::from(number_of(&check(file)))
 }
 
 // G with other bytes from a place on.
 fn changed(rt: &impl Print, name: &[u8], at: usize, bytes: &[u8]) -> io::Result<()> {
     let mut file = g();
-    put(&mut file[..], at, bytes);
-    say(rt, name, number(&file[..]))
+    put(&mut file, at, bytes);
+    say(rt, name, number(&file))
 }
 
 fn head_faults(rt: &impl Print) -> io::Result<()> {
@@ -88,46 +90,29 @@ fn order_faults(rt: &impl Print) -> io::Result<()> {
 
 // With two markers: rows rise by marker before they rise by to, which the second keeps.
 fn marker_faults(rt: &impl Print) -> io::Result<()> {
-    let mut bytes = g();
-    let file = &mut bytes[..];
-    put(file, 2, b"\x02");
-    put(file, 319, b"\x02");
+    let mut file = g();
+    put(&mut file, 2, b"\x02");
+    put(&mut file, 319, b"\x02");
     say(
         rt,
         b"rows: a falling marker before a rising to",
-        number(file),
+        number(&file),
     )?;
-    put(file, 318, b"\x02\x01");
-    put(file, 326, b"\x01\x02");
+    put(&mut file, 318, b"\x02\x01");
+    put(&mut file, 326, b"\x01\x02");
     say(
         rt,
         b"rows: a rising marker before a falling to",
-        number(file),
+        number(&file),
     )
-}
-
-// 1 where a file is taken.
-fn taken(file: &[u8]) -> u64
-    ensures { result ≤ 1 }
-{
-    if is_taken(table_check::check(file)) {
-        1
-    } else {
-        0
-    }
 }
 
 // How many beginnings of G are taken: the whole alone.
 fn beginnings() -> u64 {
-    let bytes = g();
-    let file = &bytes[..];
-    let mut sum: u64 = 0;
-    let mut n: usize = 0;
-    while n <= file.len() {
-        sum += taken(&file[..n]);
-        n += 1;
-    }
-    sum
+    let file = g();
+    (0..=file.len())
+        .filter(|n| check(part(&file, *n)).is_ok())
+        .count() as u64
 }
 
 // How many of the 256 values are taken at one place of G.
@@ -136,23 +121,21 @@ fn values(at: usize) -> u64
     ensures { result ≤ 256 }
 {
     let mut file = g();
-    let mut sum: u64 = 0;
-    let mut v: usize = 0;
-    while v < 256 {
-        file[at] = v as u8;
-        sum += taken(&file[..]);
-        v += 1;
+    let mut sum = 0;
+    for v in 0..=255u8 {
+        file[at] = v;
+        if check(&file).is_ok() {
+            sum += 1;
+        }
     }
     sum
 }
 
 // The same of all places together.
 fn changes() -> u64 {
-    let mut sum: u64 = 0;
-    let mut at: usize = 0;
-    while at < 354 {
+    let mut sum = 0;
+    for at in 0..354 {
         sum += values(at);
-        at += 1;
     }
     sum
 }

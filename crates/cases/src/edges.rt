@@ -17,9 +17,9 @@ pub(crate) fn all(rt: &impl Print) -> io::Result<()> {
 fn first_words(rt: &impl Print) -> io::Result<()> {
     let words = [97u8; 17];
     let second = inner(b"\x01\x00\x04\x04", b"a\x00\x00\x00\x01", b"b");
-    let edge = outer(b"\x01\x00\x04\x04", b"x\x00\x00\x00\x10", &words[0..16]);
+    let edge = outer(b"\x01\x00\x04\x04", b"x\x00\x00\x00\x10", &words[..16]);
     tried(rt, b"a word of 16 bytes", &edge, &second, ROOM)?;
-    let over = outer(b"\x01\x00\x04\x04", b"x\x00\x00\x00\x11", &words[..]);
+    let over = outer(b"\x01\x00\x04\x04", b"x\x00\x00\x00\x11", &words);
     tried(rt, b"a word of 17 bytes", &over, &second, ROOM)
 }
 
@@ -27,8 +27,8 @@ fn first_words(rt: &impl Print) -> io::Result<()> {
 fn states(rt: &impl Print) -> io::Result<()> {
     let mut first = outer(b"\x08\x00\x04\x04", b"x\x00\x07\x00\x01", b"a");
     let mut second = inner(b"\x08\x00\x04\x04", b"a\x00\x07\x00\x01", b"b");
-    put(&mut first[..], 292, b"\x80");
-    put(&mut second[..], 292, b"\x80");
+    put(&mut first, 292, b"\x80");
+    put(&mut second, 292, b"\x80");
     shown(rt, b"64 states", &first, &second)?;
     first = outer(b"\x0d\x00\x04\x04", b"x\x00\x0c\x00\x01", b"a");
     second = inner(b"\x05\x00\x04\x04", b"a\x00\x04\x00\x01", b"b");
@@ -38,7 +38,7 @@ fn states(rt: &impl Print) -> io::Result<()> {
 // 32 call rows that write `c`, which pushes marker 1 or 2; and one with an empty word.
 fn markers(rt: &impl Print) -> io::Result<()> {
     let mut rows = numbered(32, true);
-    put(&mut rows[..], 160, b"\x21\x00\x00\x21\x00");
+    put(&mut rows, 160, b"\x21\x00\x00\x21\x00");
     let words = [99u8; 32];
     let second = laid(
         b"\x01\x02\x04\x04",
@@ -46,25 +46,25 @@ fn markers(rt: &impl Print) -> io::Result<()> {
         b"c\x00\x00\x01\x00c\x00\x00\x02\x00",
         b"",
     );
-    let edge = many(1, &rows, 32, &words[..]);
+    let edge = many(1, &rows, 32, &words);
     tried(rt, b"64 markers", &edge, &second, ROOM)?;
-    let over = many(1, &rows, 33, &words[..]);
+    let over = many(1, &rows, 33, &words);
     tried(rt, b"65 markers", &over, &second, ROOM)
 }
 
 // 64 rows that write `a`, which gives one of four words; and one with an empty word.
 fn rows(rt: &impl Print) -> io::Result<()> {
     let mut rows = numbered(64, false);
-    put(&mut rows[..], 320, b"\x41\x00\x00\x00\x00");
+    put(&mut rows, 320, b"\x41\x00\x00\x00\x00");
     let words = [97u8; 64];
     let second = inner(
         b"\x01\x00\x04\x04",
         b"a\x00\x00\x00\x01a\x00\x00\x00\x01a\x00\x00\x00\x01a\x00\x00\x00\x01",
         b"abcd",
     );
-    let edge = many(3, &rows, 64, &words[..]);
+    let edge = many(3, &rows, 64, &words);
     tried(rt, b"256 rows", &edge, &second, ROOM)?;
-    let over = many(3, &rows, 65, &words[..]);
+    let over = many(3, &rows, 65, &words);
     tried(rt, b"257 rows", &over, &second, ROOM)
 }
 
@@ -72,7 +72,7 @@ fn rows(rt: &impl Print) -> io::Result<()> {
 fn largest(rt: &impl Print) -> io::Result<()> {
     let rows = numbered(64, false);
     let words = [97u8; 64];
-    let first = many(3, &rows, 64, &words[..]);
+    let first = many(3, &rows, 64, &words);
     let second = inner(
         b"\x01\x00\x04\x04",
         b"a\x00\x00\x00\x10a\x00\x00\x00\x10a\x00\x00\x00\x10a\x00\x00\x00\x10",
@@ -88,7 +88,7 @@ fn joined_words(rt: &impl Print) -> io::Result<()> {
     let second = inner(
         b"\x01\x00\x04\x04",
         b"a\x00\x00\x00\xffb\x00\x00\x00\x01",
-        &words[..],
+        &words,
     );
     let edge = outer(b"\x01\x00\x04\x04", b"x\x00\x00\x00\x01", b"a");
     tried(rt, b"a joined word of 255 bytes", &edge, &second, ROOM)?;
@@ -102,14 +102,10 @@ fn words_together(rt: &impl Print) -> io::Result<()> {
     let second = inner(
         b"\x01\x00\x04\x04",
         b"a\x00\x00\x00\xffb\x00\x00\x00\x01",
-        &long[..],
+        &long,
     );
     let mut rows = numbered(16, false);
-    put(
-        &mut rows[..],
-        80,
-        b"\x11\x00\x00\x00\x10\x12\x00\x00\x00\x01",
-    );
+    put(&mut rows, 80, b"\x11\x00\x00\x00\x10\x12\x00\x00\x00\x01");
     let words = b"aaaaaaaaaaaaaaaabbbbbbbbbbbbbbbbb";
     let edge = many(3, &rows, 17, words);
     tried(rt, b"4096 bytes of words", &edge, &second, ROOM)?;

@@ -1,11 +1,10 @@
 // Ends: of G, of an unsound session and a bad table, and of runs of which all or some accept, with room and without.
-ghost use Rattle.std.specs.Prelude.{◌≤◌, length};
+ghost use Rattle.std.specs.Prelude.{◌≤◌};
 
 use crate::lines::{say, told};
 use crate::sessions::{judged, opened, opening};
 use crate::steps::message;
 use crate::tables::{fork, g, put};
-use numbers::number_of;
 use session_bytes::SIZE;
 use std::io;
 
@@ -25,19 +24,11 @@ fn asked(rt: &impl Print, file: &[u8], session: &[u8; SIZE], room: usize) -> io:
     requires { room ≤ 4 }
 {
     let mut out = [46u8; 4];
-    let answer = lent(file, session, &mut out[..], room);
+    let answer = finish::finish(file, session, &mut out[..room]);
     rt.write_all(b"finish: ")?;
-    let name = answer.number;
-    told(rt, number_of(name) as u64, answer.count as u64)?;
-    rt.write_all(&out[..])?;
+    told(rt, answer)?;
+    rt.write_all(&out)?;
     rt.write_all(b"\n")
-}
-
-// An end that is lent so much of an output.
-fn lent(file: &[u8], session: &[u8; SIZE], out: &mut [u8], room: usize) -> numbers::Answer
-    requires { room ≤ length out.old }
-{
-    finish::finish(file, session, &mut out[..room])
 }
 
 // A message, and the end.
@@ -58,26 +49,26 @@ fn closed(
 fn ends_of_g(rt: &impl Print) -> io::Result<()> {
     let file = g();
     let mut session = [0u8; SIZE];
-    say(rt, b"ends of G", opened(&file[..], &mut session))?;
-    closed(rt, &file[..], &mut session, b"", 4)?;
-    closed(rt, &file[..], &mut session, b"\x0a", 4)?;
-    closed(rt, &file[..], &mut session, b"\x01\x0b", 0)
+    say(rt, b"ends of G", opened(&file, &mut session))?;
+    closed(rt, &file, &mut session, b"", 4)?;
+    closed(rt, &file, &mut session, b"\x0a", 4)?;
+    closed(rt, &file, &mut session, b"\x01\x0b", 0)
 }
 
 // A session that is not sound, and then a table that is not good either.
 fn refusals(rt: &impl Print) -> io::Result<()> {
     let mut file = g();
     let mut session = opening();
-    put(&mut session[..], 33217, b"\x01");
+    put(&mut session, 33217, b"\x01");
     say(
         rt,
         b"the end of an unsound session",
-        judged(&file[..], &session),
+        judged(&file, &session),
     )?;
-    asked(rt, &file[..], &session, 4)?;
-    put(&mut file[..], 1, b"\x02");
-    say(rt, b"and of a bad table", judged(&file[..], &session))?;
-    asked(rt, &file[..], &session, 4)
+    asked(rt, &file, &session, 4)?;
+    put(&mut file, 1, b"\x02");
+    say(rt, b"and of a bad table", judged(&file, &session))?;
+    asked(rt, &file, &session, 4)
 }
 
 fn forks(rt: &impl Print) -> io::Result<()> {
@@ -89,34 +80,33 @@ fn forks(rt: &impl Print) -> io::Result<()> {
 fn forked(rt: &impl Print, name: &[u8], word: &[u8]) -> io::Result<()> {
     let file = fork(word);
     let mut session = [0u8; SIZE];
-    say(rt, name, opened(&file[..], &mut session))?;
-    closed(rt, &file[..], &mut session, b"\x01", 4)
+    say(rt, name, opened(&file, &mut session))?;
+    closed(rt, &file, &mut session, b"\x01", 4)
 }
 
 // G with return 11 from 2 to 0 in place of return 12: `Kp` waits in a final state, `Np` in another, and a further call
 // shows that the end left both.
 fn rest(rt: &impl Print) -> io::Result<()> {
     let mut file = g();
-    put(&mut file[..], 340, b"\x0b\x02\x00");
+    put(&mut file, 340, b"\x0b\x02\x00");
     let mut session = [0u8; SIZE];
-    say(rt, b"Kp or Np", opened(&file[..], &mut session))?;
-    closed(rt, &file[..], &mut session, b"\x0a\x01\x0b", 1)?;
-    asked(rt, &file[..], &session, 2)?;
-    asked(rt, &file[..], &session, 4)?;
-    message(rt, &file[..], &mut session, b"\x0a")
+    say(rt, b"Kp or Np", opened(&file, &mut session))?;
+    closed(rt, &file, &mut session, b"\x0a\x01\x0b", 1)?;
+    asked(rt, &file, &session, 2)?;
+    asked(rt, &file, &session, 4)?;
+    message(rt, &file, &mut session, b"\x0a")
 }
 
 // Three runs of G: `N` waits in 0, `Kp` in 1 and in 2.
 fn runs() -> [u8; SIZE] {
-    let mut bytes = [0u8; SIZE];
-    let session = &mut bytes[..];
-    put(session, 0, b"\x00\x03");
-    put(session, 8, b"\x01\x00\x00\x00\x00\x02");
-    put(session, 322, b"\x01\x00\x02\x00\x02");
-    put(session, 450, b"N");
-    put(session, 962, b"Kp");
-    put(session, 1474, b"Kp");
-    bytes
+    let mut session = [0u8; SIZE];
+    put(&mut session, 0, b"\x00\x03");
+    put(&mut session, 8, b"\x01\x00\x00\x00\x00\x02");
+    put(&mut session, 322, b"\x01\x00\x02\x00\x02");
+    put(&mut session, 450, b"N");
+    put(&mut session, 962, b"Kp");
+    put(&mut session, 1474, b"Kp");
+    session
 }
 
 // Their end where G has other final states.
@@ -124,8 +114,8 @@ fn three(rt: &impl Print, name: &[u8], finals: &[u8], room: usize) -> io::Result
     requires { room ≤ 4 }
 {
     let mut file = g();
-    put(&mut file[..], 292, finals);
+    put(&mut file, 292, finals);
     let session = runs();
-    say(rt, name, judged(&file[..], &session))?;
-    asked(rt, &file[..], &session, room)
+    say(rt, name, judged(&file, &session))?;
+    asked(rt, &file, &session, room)
 }

@@ -1,5 +1,5 @@
 // Joins: the worked one, refusals in their order, what is nested and what is not, and rows in order and once each.
-ghost use Rattle.std.specs.Prelude.{◌≤◌, length};
+ghost use Rattle.std.specs.Prelude.{◌≤◌};
 
 use crate::checks::number;
 use crate::lines::{having, say, told};
@@ -8,8 +8,8 @@ use crate::readers::list;
 use crate::sessions::opened;
 use crate::steps::message;
 use crate::tables::put;
-use join::Joined;
-use numbers::number_of;
+use join::Unjoined;
+use numbers::Refusal;
 use session_bytes::SIZE;
 use std::io;
 
@@ -27,59 +27,37 @@ pub(crate) fn all(rt: &impl Print) -> io::Result<()> {
     marks(rt)
 }
 
-// What `join` answers, in numbers.
-#[derive(Clone, Copy)]
-struct Said {
-    number: u64,
-    which: u64,
-    count: usize,
-}
-
-fn in_numbers(joined: Joined) -> Said {
-    let number = joined.number;
-    Said {
-        number: number_of(number) as u64,
-        which: joined.table as u64,
-        count: joined.count,
-    }
-}
-
-// A join that is lent so much of an output.
-fn lent(first: &[u8], second: &[u8], out: &mut [u8], room: usize) -> Joined
-    requires { room ≤ length out.old }
-{
-    join::join(first, second, &mut out[..room])
-}
-
 // The file that was written.
-fn written(out: &[u8; ROOM], count: usize) -> &[u8] {
-    part(&out[..], count)
+fn written(out: &[u8; ROOM], joined: Result<usize, Unjoined>) -> &[u8] {
+    part(out, joined.unwrap_or(0))
 }
 
 // The number, the byte count, how many dots behind the file are dots no more; what `check` says of a file that was
 // written, and which table is bad.
-fn tell(rt: &impl Print, name: &[u8], said: Said, out: &[u8; ROOM]) -> io::Result<()> {
-    let count = said.count;
+fn tell(
+    rt: &impl Print,
+    name: &[u8],
+    joined: Result<usize, Unjoined>,
+    out: &[u8; ROOM],
+) -> io::Result<()> {
     rt.write_all(name)?;
     rt.write_all(b": ")?;
-    told(rt, said.number, count as u64)?;
-    print!(rt; "{}", changed(&out[..], count))?;
-    if said.number == 0 {
-        print!(rt; " check {}", number(written(out, count)))?;
-    }
-    if said.which != 0 {
-        print!(rt; " table {}", said.which)?;
+    told(rt, joined.map_err(Refusal::from))?;
+    print!(rt; "{}", changed(out, joined.unwrap_or(0)))?;
+    match joined {
+        Ok(count) => print!(rt; " check {}", number(part(out, count)))?,
+        Err(unjoined) if unjoined.table() != 0 => print!(rt; " table {}", unjoined.table())?,
+        Err(_) => (),
     }
     rt.write_all(b"\n")
 }
 
 // How many bytes from a place on are no dots.
 fn changed(out: &[u8], from: usize) -> u64 {
-    if out.len() < from {
-        return 0;
+    match out.get(from..) {
+        Some(rest) => rest.len() as u64 - having(rest, 46),
+        None => 0,
     }
-    let rest = &out[from..];
-    rest.len() as u64 - having(rest, 46)
 }
 
 // A join with so much room.
@@ -93,8 +71,8 @@ pub(crate) fn tried(
     requires { room ≤ 6500 }
 {
     let mut out = [46u8; ROOM];
-    let said = in_numbers(lent(whole(first), whole(second), &mut out[..], room));
-    tell(rt, name, said, &out)
+    let joined = join::join(whole(first), whole(second), &mut out[..room]);
+    tell(rt, name, joined, &out)
 }
 
 // A join, and the rows that it gives.
@@ -105,21 +83,18 @@ pub(crate) fn shown(
     second: &[u8; LARGEST],
 ) -> io::Result<()> {
     let mut out = [46u8; ROOM];
-    let said = in_numbers(lent(whole(first), whole(second), &mut out[..], ROOM));
-    tell(rt, name, said, &out)?;
-    let count = said.count;
-    list(rt, written(&out, count))
+    let joined = join::join(whole(first), whole(second), &mut out);
+    tell(rt, name, joined, &out)?;
+    list(rt, written(&out, joined))
 }
 
 // Bytes in hex, 20 to a line.
 fn dump(rt: &impl Print, bytes: &[u8]) -> io::Result<()> {
-    let mut i: usize = 0;
-    while i < bytes.len() {
-        print!(rt; "{:02x}", bytes[i])?;
+    for (i, byte) in bytes.iter().enumerate() {
+        print!(rt; "{byte:02x}")?;
         if i % 20 == 19 {
             rt.write_all(b"\n")?;
         }
-        i += 1;
     }
     Ok(())
 }
@@ -129,10 +104,9 @@ fn worked(rt: &impl Print) -> io::Result<()> {
     let first = first_hop(b"(\x00\x00\x01\x02)\x00\x00\x01\x02", b"[{}]");
     let second = second_hop();
     let mut out = [46u8; ROOM];
-    let said = in_numbers(lent(whole(&first), whole(&second), &mut out[..], ROOM));
-    tell(rt, b"the worked join", said, &out)?;
-    let count = said.count;
-    let file = written(&out, count);
+    let joined = join::join(whole(&first), whole(&second), &mut out);
+    tell(rt, b"the worked join", joined, &out)?;
+    let file = written(&out, joined);
     dump(rt, file)?;
     let mut session = [0u8; SIZE];
     say(rt, b"(()) through it", opened(file, &mut session))?;
@@ -158,7 +132,7 @@ fn bad_tables(rt: &impl Print) -> io::Result<()> {
     let first = first_hop(b"", b"");
     let second = second_hop();
     let mut bad = second_hop();
-    put(&mut bad[..], 0, b"\x02");
+    put(&mut bad, 0, b"\x02");
     tried(rt, b"the first is bad", &bad, &second, ROOM)?;
     tried(rt, b"the second is bad", &first, &bad, ROOM)?;
     tried(rt, b"both are bad", &bad, &bad, ROOM)
@@ -167,8 +141,7 @@ fn bad_tables(rt: &impl Print) -> io::Result<()> {
 // A first table with two markers, joined with the second of the worked join.
 fn nested(rt: &impl Print, name: &[u8], rows: &[u8], words: &[u8]) -> io::Result<()> {
     let first = outer(b"\x01\x02\x04\x04", rows, words);
-    let second = second_hop();
-    shown(rt, name, &first, &second)
+    shown(rt, name, &first, &second_hop())
 }
 
 fn not_nested(rt: &impl Print) -> io::Result<()> {
@@ -233,7 +206,7 @@ fn refusals_in_order(rt: &impl Print) -> io::Result<()> {
     let row = b"x\x00\x00\x00\x11";
     let mut first = outer(b"\x01\x00\x04\x04", row, b"aaaaaaaaaaaaaaaa[");
     tried(rt, b"not nested and too large", &first, &second, 0)?;
-    put(&mut first[..], 0, b"\x02");
+    put(&mut first, 0, b"\x02");
     tried(rt, b"a bad table", &first, &second, 0)?;
     first = outer(b"\x01\x00\x04\x04", row, b"aaaaaaaaaaaaaaaaa");
     tried(rt, b"too large", &first, &second, 0)?;

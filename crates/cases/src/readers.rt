@@ -5,17 +5,16 @@ ghost use Rattle.table.specs.File.{row_count};
 
 use crate::lines::say;
 use crate::tables::g;
-use numbers::is_taken;
 use std::io;
+use table_check::check;
 
 pub(crate) fn all(rt: &impl Print) -> io::Result<()> {
-    let file = g();
-    readings(rt, &file[..])
+    readings(rt, &g())
 }
 
 // What the readers say of a file, if it is good.
 fn readings(rt: &impl Print, file: &[u8]) -> io::Result<()> {
-    if is_taken(table_check::check(file)) {
+    if check(file).is_ok() {
         show(rt, file)?;
     }
     Ok(())
@@ -56,7 +55,7 @@ fn show_body(rt: &impl Print, file: &[u8]) -> io::Result<()>
 
 // The rows of a file, if it is good.
 pub(crate) fn list(rt: &impl Print, file: &[u8]) -> io::Result<()> {
-    if is_taken(table_check::check(file)) {
+    if check(file).is_ok() {
         show_rows(rt, file)?;
     }
     Ok(())
@@ -65,11 +64,8 @@ pub(crate) fn list(rt: &impl Print, file: &[u8]) -> io::Result<()> {
 fn show_rows(rt: &impl Print, file: &[u8]) -> io::Result<()>
     requires { GoodFile first_edition file.now }
 {
-    let n = table::row_count(file);
-    let mut i = 0;
-    while i < n {
+    for i in 0..table::row_count(file) {
         row(rt, file, i)?;
-        i += 1;
     }
     Ok(())
 }
@@ -82,12 +78,6 @@ fn row(rt: &impl Print, file: &[u8], i: usize) -> io::Result<()>
     let to = table::row_to(file, i);
     let marker = table::row_marker(file, i);
     print!(rt; "{symbol} {from} {to} {marker} ")?;
-    word(rt, file, i)?;
+    rt.write_all(table::row_word(file, i))?;
     rt.write_all(b"\n")
-}
-
-fn word(rt: &impl Print, file: &[u8], i: usize) -> io::Result<()>
-    requires { (GoodFile first_edition file.now) × (i < row_count file.now) }
-{
-    rt.write_all(table::row_word(file, i))
 }

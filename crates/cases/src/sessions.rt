@@ -1,11 +1,10 @@
 // Sessions: those that begin makes, those of G after some symbols, and one for each rule of soundness that it breaks.
-ghost use Rattle.table.specs.Good.{first_edition, GoodFile};
-
 use crate::lines::{having, say};
 use crate::tables::{g, put, wide};
-use numbers::is_taken;
+use numbers::{Refusal, number_of};
 use session_bytes::SIZE;
 use std::io;
+use table_check::check;
 
 pub(crate) fn all(rt: &impl Print) -> io::Result<()> {
     begins(rt)?;
@@ -16,18 +15,19 @@ pub(crate) fn all(rt: &impl Print) -> io::Result<()> {
     zero_faults(rt)
 }
 
-// The number for a session: 0 where it is sound for the table, 2 where it is not.
+// The number for a session and its table.
 pub(crate) fn judged(file: &[u8], session: &[u8; SIZE]) -> u64 {
-    if !is_taken(table_check::check(file)) {
-        return 1;
-    }
-    found(file, session)
+    u64::from(number_of(&found(file, session)))
 }
 
-fn found(file: &[u8], session: &[u8; SIZE]) -> u64
-    requires { GoodFile first_edition file.now }
-{
-    if session::sound(file, session) { 0 } else { 2 }
+// Whether the table is good and the session sound for it.
+fn found(file: &[u8], session: &[u8; SIZE]) -> Result<(), Refusal> {
+    check(file)?;
+    if session::sound(file, session) {
+        Ok(())
+    } else {
+        Err(Refusal::BadSession)
+    }
 }
 
 // What `begin` reports, and what it leaves of a session of 7s.
@@ -35,88 +35,78 @@ fn begun(rt: &impl Print, name: &[u8], file: &[u8]) -> io::Result<()> {
     let mut session = [7u8; SIZE];
     say(rt, name, opened(file, &mut session))?;
     say(rt, b"- its session", judged(file, &session))?;
-    say(rt, b"- bytes still 7", sevens(&session))
+    say(rt, b"- bytes still 7", having(&session, 7))
 }
 
 // The number of starting states.
 pub(crate) fn opened(file: &[u8], session: &mut [u8; SIZE]) -> u64 {
-    session::begin(file, session).count as u64
-}
-
-fn sevens(session: &[u8; SIZE]) -> u64 {
-    having(&session[..], 7)
+    session::begin(file, session).unwrap_or(0) as u64
 }
 
 fn begins(rt: &impl Print) -> io::Result<()> {
     let mut file = g();
-    begun(rt, b"begin: G", &file[..])?;
-    put(&mut file[..], 284, b"\x0d");
-    begun(rt, b"begin: three starting states", &file[..])?;
-    put(&mut file[..], 284, b"\x00");
-    begun(rt, b"begin: a bad table", &file[..])?;
-    let wide = wide();
-    begun(rt, b"begin: 64 starting states", &wide[..])
+    begun(rt, b"begin: G", &file)?;
+    put(&mut file, 284, b"\x0d");
+    begun(rt, b"begin: three starting states", &file)?;
+    put(&mut file, 284, b"\x00");
+    begun(rt, b"begin: a bad table", &file)?;
+    begun(rt, b"begin: 64 starting states", &wide())
 }
 
 // Depth, count and links of a session whose pieces are empty.
 fn bare(rt: &impl Print, name: &[u8], links: &[u8]) -> io::Result<()> {
     let file = g();
     let mut session = [0u8; SIZE];
-    put(&mut session[..], 0, links);
-    say(rt, name, judged(&file[..], &session))
+    put(&mut session, 0, links);
+    say(rt, name, judged(&file, &session))
 }
 
 // G after 10: `K` or `N` waits over the pair that the call left.
 pub(crate) fn opening() -> [u8; SIZE] {
-    let mut bytes = [0u8; SIZE];
-    let session = &mut bytes[..];
-    put(session, 0, b"\x01\x03");
-    put(session, 7, b"\x01\x01\x01\x00\x00\x01\x02\x01");
-    put(session, 324, b"\x01\x00\x01");
-    put(session, 962, b"K");
-    put(session, 1474, b"N");
-    bytes
+    let mut session = [0u8; SIZE];
+    put(&mut session, 0, b"\x01\x03");
+    put(&mut session, 7, b"\x01\x01\x01\x00\x00\x01\x02\x01");
+    put(&mut session, 324, b"\x01\x00\x01");
+    put(&mut session, 962, b"K");
+    put(&mut session, 1474, b"N");
+    session
 }
 
 // That session with other bytes from a place on.
 fn tried(rt: &impl Print, name: &[u8], at: usize, bytes: &[u8]) -> io::Result<()> {
     let file = g();
     let mut session = opening();
-    put(&mut session[..], at, bytes);
-    say(rt, name, judged(&file[..], &session))
+    put(&mut session, at, bytes);
+    say(rt, name, judged(&file, &session))
 }
 
 // Two pairs at level 0 and three links on them, with `waiting` on the first: five bytes wait at most where it is three.
 fn branched(rt: &impl Print, name: &[u8], waiting: &[u8], length: &[u8]) -> io::Result<()> {
     let mut session = [0u8; SIZE];
-    put(&mut session[..], 0, b"\x01\x05\x00\x00\x00\x00\x00\x00\x01");
+    put(&mut session, 0, b"\x01\x05\x00\x00\x00\x00\x00\x00\x01");
     put(
-        &mut session[..],
+        &mut session,
         12,
         b"\x01\x01\x01\x00\x00\x01\x01\x01\x01\x00\x01\x02\x01",
     );
-    put(&mut session[..], 322, length);
-    put(&mut session[..], 324, b"\x01\x00\x02\x00\x00\x00\x01");
-    put(&mut session[..], 450, waiting);
-    put(&mut session[..], 962, b"b");
-    put(&mut session[..], 1474, b"cc");
-    put(&mut session[..], 2498, b"d");
+    put(&mut session, 322, length);
+    put(&mut session, 324, b"\x01\x00\x02\x00\x00\x00\x01");
+    put(&mut session, 450, waiting);
+    put(&mut session, 962, b"b");
+    put(&mut session, 1474, b"cc");
+    put(&mut session, 2498, b"d");
     let file = g();
-    say(rt, name, judged(&file[..], &session))
+    say(rt, name, judged(&file, &session))
 }
 
 fn sound_sessions(rt: &impl Print) -> io::Result<()> {
     tried(rt, b"session: G after 10", 0, b"")?;
     let file = g();
     let mut session = opening();
-    put(&mut session[..], 324, b"\x04\x00\x04");
-    put(&mut session[..], 962, b"Kppp");
-    put(&mut session[..], 1474, b"Nppp");
-    say(
-        rt,
-        b"session: G after 10, 1, 1, 1",
-        judged(&file[..], &session),
-    )?;
+    put(&mut session, 324, b"\x04\x00\x04");
+    put(&mut session, 962, b"Kppp");
+    put(&mut session, 1474, b"Nppp");
+    say(rt, b"session: G after 10, 1, 1, 1", judged(&file, &session))?;
     bare(
         rt,
         b"session: one link on another",
@@ -164,20 +154,16 @@ fn trail_faults(rt: &impl Print) -> io::Result<()> {
 // A link at each level to 4, each on the one before it, and perhaps one more.
 fn tall(rt: &impl Print, name: &[u8], head: &[u8], last: &[u8]) -> io::Result<()> {
     let mut session = [0u8; SIZE];
-    put(&mut session[..], 0, head);
+    put(&mut session, 0, head);
+    put(&mut session, 7, b"\x01\x00\x01\x00\x00\x02\x00\x01\x00\x01");
     put(
-        &mut session[..],
-        7,
-        b"\x01\x00\x01\x00\x00\x02\x00\x01\x00\x01",
-    );
-    put(
-        &mut session[..],
+        &mut session,
         17,
         b"\x03\x00\x01\x00\x01\x04\x00\x01\x00\x01",
     );
-    put(&mut session[..], 27, last);
+    put(&mut session, 27, last);
     let file = g();
-    say(rt, name, judged(&file[..], &session))
+    say(rt, name, judged(&file, &session))
 }
 
 fn piece_faults(rt: &impl Print) -> io::Result<()> {

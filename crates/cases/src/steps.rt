@@ -1,10 +1,9 @@
 // Steps: of G, of a table whose runs clash, and of one with 64 links and with a link more.
-ghost use Rattle.std.specs.Prelude.{◌≤◌, length};
+ghost use Rattle.std.specs.Prelude.{◌≤◌};
 
 use crate::lines::{held, say, told};
 use crate::sessions::{judged, opened, opening};
 use crate::tables::{crowd, g, larger_crowd, put};
-use numbers::number_of;
 use session_bytes::SIZE;
 use std::io;
 
@@ -27,26 +26,12 @@ fn took(
     requires { room ≤ 4 }
 {
     let mut out = [46u8; 4];
-    let answer = lent(file, session, symbol, &mut out[..], room);
+    let answer = step::step(file, session, symbol, &mut out[..room]);
     print!(rt; "step {symbol}: ")?;
-    let name = answer.number;
-    told(rt, number_of(name) as u64, answer.count as u64)?;
+    told(rt, answer)?;
     held(rt, session)?;
-    rt.write_all(&out[..])?;
+    rt.write_all(&out)?;
     rt.write_all(b"\n")
-}
-
-// A step that is lent so much of an output.
-fn lent(
-    file: &[u8],
-    session: &mut [u8; SIZE],
-    symbol: u8,
-    out: &mut [u8],
-    room: usize,
-) -> numbers::Answer
-    requires { room ≤ length out.old }
-{
-    step::step(file, session, symbol, &mut out[..room])
 }
 
 // Symbol after symbol, with all the room.
@@ -56,10 +41,8 @@ pub(crate) fn message(
     session: &mut [u8; SIZE],
     symbols: &[u8],
 ) -> io::Result<()> {
-    let mut i = 0;
-    while i < symbols.len() {
-        took(rt, file, session, symbols[i], 4)?;
-        i += 1;
+    for symbol in symbols {
+        took(rt, file, session, *symbol, 4)?;
     }
     Ok(())
 }
@@ -67,47 +50,47 @@ pub(crate) fn message(
 fn steps_of_g(rt: &impl Print) -> io::Result<()> {
     let file = g();
     let mut session = [0u8; SIZE];
-    say(rt, b"steps of G", opened(&file[..], &mut session))?;
-    took(rt, &file[..], &mut session, 10, 0)?;
-    took(rt, &file[..], &mut session, 10, 1)?;
-    message(rt, &file[..], &mut session, b"\x01\x01\x01\x01\x0c")
+    say(rt, b"steps of G", opened(&file, &mut session))?;
+    took(rt, &file, &mut session, 10, 0)?;
+    took(rt, &file, &mut session, 10, 1)?;
+    message(rt, &file, &mut session, b"\x01\x01\x01\x01\x0c")
 }
 
 fn refusals_of_g(rt: &impl Print) -> io::Result<()> {
     let mut file = g();
     let mut session = [0u8; SIZE];
-    say(rt, b"refusals of G", opened(&file[..], &mut session))?;
-    message(rt, &file[..], &mut session, b"\x07\x0b\x01\x0a\x0a")?;
-    put(&mut file[..], 3, b"\x01");
-    message(rt, &file[..], &mut session, b"\x0a")?;
-    put(&mut file[..], 1, b"\x02");
-    message(rt, &file[..], &mut session, b"\x01")
+    say(rt, b"refusals of G", opened(&file, &mut session))?;
+    message(rt, &file, &mut session, b"\x07\x0b\x01\x0a\x0a")?;
+    put(&mut file, 3, b"\x01");
+    message(rt, &file, &mut session, b"\x0a")?;
+    put(&mut file, 1, b"\x02");
+    message(rt, &file, &mut session, b"\x01")
 }
 
 // G after 10, with a byte in a place not used.
 fn unsound(rt: &impl Print) -> io::Result<()> {
     let file = g();
     let mut session = opening();
-    put(&mut session[..], 33217, b"\x01");
-    say(rt, b"an unsound session", judged(&file[..], &session))?;
-    message(rt, &file[..], &mut session, b"\x01")
+    put(&mut session, 33217, b"\x01");
+    say(rt, b"an unsound session", judged(&file, &session))?;
+    message(rt, &file, &mut session, b"\x01")
 }
 
 // G with `ON` leading to 1 as `OK` does: one trail, two outputs.
 fn conflict(rt: &impl Print) -> io::Result<()> {
     let mut file = g();
-    put(&mut file[..], 326, b"\x01");
+    put(&mut file, 326, b"\x01");
     let mut session = [0u8; SIZE];
-    say(rt, b"a conflict", opened(&file[..], &mut session))?;
-    message(rt, &file[..], &mut session, b"\x0a")
+    say(rt, b"a conflict", opened(&file, &mut session))?;
+    message(rt, &file, &mut session, b"\x0a")
 }
 
 fn crowds(rt: &impl Print) -> io::Result<()> {
     let file = crowd();
     let mut session = [0u8; SIZE];
-    say(rt, b"a crowd", opened(&file[..], &mut session))?;
-    message(rt, &file[..], &mut session, b"\x0a\x0a")?;
+    say(rt, b"a crowd", opened(&file, &mut session))?;
+    message(rt, &file, &mut session, b"\x0a\x0a")?;
     let larger = larger_crowd();
-    say(rt, b"one row more", opened(&larger[..], &mut session))?;
-    message(rt, &larger[..], &mut session, b"\x0a")
+    say(rt, b"one row more", opened(&larger, &mut session))?;
+    message(rt, &larger, &mut session, b"\x0a")
 }

@@ -3,31 +3,57 @@
 #![tactic(auto)]
 
 ghost use Rattle.std.specs.Prelude.{◌≡◌};
+ghost use Rattle.numbers.specs.Numbers.{number_of, count_of};
+ghost use Rattle.join.specs.Calls.{joined_number, blamed};
 ghost use Rattle.table.specs.Calls.{Judged};
 ghost use Rattle.session.specs.Calls.{BeginsSession};
 ghost use Rattle.step_meaning.specs.Promises.{Stepped, Finished};
 ghost use Rattle.join_meaning.specs.Promises.{Joins};
 
-use join::TAPE;
+use join::{TAPE, Unjoined};
 use join_shelf::SHELF;
-use numbers::number_of;
+use numbers::{Refusal, number_of};
 use session_bytes::SIZE;
 use step::WORK;
+
+// The number of an answer; its count is written where the caller says.
+fn told(answer: Result<usize, Refusal>, count: &mut usize) -> u32
+    ensures { (result ≡ number_of answer) × (count.new ≡ count_of answer) }
+{
+    *count = answer.unwrap_or(0);
+    number_of(&answer)
+}
+
+// The same of joining, and which table is bad.
+fn told_joined(answer: Result<usize, Unjoined>, which: &mut u32, count: &mut usize) -> u32
+    ensures number { result ≡ joined_number answer }
+    ensures told { (which.new ≡ blamed answer) × (count.new ≡ count_of answer) }
+{
+    *count = answer.unwrap_or(0);
+    match answer {
+        Ok(_) => {
+            *which = 0;
+            0
+        }
+        Err(unjoined) => {
+            *which = unjoined.table();
+            u32::from(Refusal::from(unjoined))
+        }
+    }
+}
 
 pub fn jermanuts_check(file: &[u8]) -> u32
     ensures { Judged file.now result }
 {
-    let number = table_check::check(file).number;
-    number_of(number)
+    number_of(&table_check::check(file))
 }
 
 pub fn jermanuts_begin(file: &[u8], session: &mut [u8; SIZE], states: &mut u32) -> u32
     ensures { BeginsSession file.now session.old result states.new session.new }
 {
     let answer = session::begin(file, session);
-    *states = answer.count as u32;
-    let number = answer.number;
-    number_of(number)
+    *states = answer.unwrap_or(0) as u32;
+    number_of(&answer)
 }
 
 pub fn jermanuts_step(
@@ -40,10 +66,7 @@ pub fn jermanuts_step(
     ensures { Stepped file.now session.old symbol out.old result count.new
         session.new out.new }
 {
-    let answer = step::step(file, session, symbol, out);
-    *count = answer.count;
-    let number = answer.number;
-    number_of(number)
+    told(step::step(file, session, symbol, out), count)
 }
 
 pub fn jermanuts_step_in(
@@ -57,20 +80,14 @@ pub fn jermanuts_step_in(
     ensures { Stepped file.now session.old symbol out.old result count.new
         session.new out.new }
 {
-    let answer = step::step_in(file, session, symbol, out, work);
-    *count = answer.count;
-    let number = answer.number;
-    number_of(number)
+    told(step::step_in(file, session, symbol, out, work), count)
 }
 
 pub fn jermanuts_finish(file: &[u8], session: &[u8; SIZE], out: &mut [u8], count: &mut usize) -> u32
     ensures { Finished file.now session.now out.old result count.new
         out.new }
 {
-    let answer = finish::finish(file, session, out);
-    *count = answer.count;
-    let number = answer.number;
-    number_of(number)
+    told(finish::finish(file, session, out), count)
 }
 
 pub fn jermanuts_join(
@@ -83,11 +100,7 @@ pub fn jermanuts_join(
     ensures { Joins first.now second.now out.old result which.new count.new
         out.new }
 {
-    let said = join::join(first, second, out);
-    *which = said.table;
-    *count = said.count;
-    let number = said.number;
-    number_of(number)
+    told_joined(join::join(first, second, out), which, count)
 }
 
 pub fn jermanuts_join_in(
@@ -103,9 +116,9 @@ pub fn jermanuts_join_in(
     ensures { Joins first.now second.now out.old result which.new count.new
         out.new }
 {
-    let answer = join::join_in(first, second, out, marks, rows, tape);
-    *which = answer.table;
-    *count = answer.count;
-    let number = answer.number;
-    number_of(number)
+    told_joined(
+        join::join_in(first, second, out, marks, rows, tape),
+        which,
+        count,
+    )
 }

@@ -9,7 +9,8 @@ use native.Mathlib.Omega.{arith}
 use native.Mathlib.Nat.{eq-or-lt_of_le}
 use lib.Dec.{ltb}
 use lib.ListN.{length, drop}
-use borrow.Author.Tests.{lt-ltb, le-ltb, eq-eqb, ne_eqb}
+use borrow.Author.Tests.{lt-ltb, le-ltb, eq-eqb}
+use Rattle.std.specs.Prelude.{None}
 use Rattle.words.specs.Lists.{◌among◌, any_of, is_empty}
 use Rattle.words.specs.Words.{Word, common}
 use Rattle.words.specs.Order.{same_word}
@@ -17,23 +18,26 @@ use Rattle.words.proofs.Lists.{empty-in, below_or}
 use Rattle.words.proofs.Common.{common-all}
 use Rattle.words.proofs.Exact.{empty-exact, exact_same, no-exact}
 use Rattle.words.specs.LittleEndian.{byte}
+use Rattle.numbers.specs.Numbers.{refusal_number}
+use Rattle.numbers.specs.declared.Refusal.{Refusal}
+use Rattle.numbers.proofs.Told.{refusal-some}
 use Rattle.meaning.specs.Table.{Table, edition1, GoodTable}
 use Rattle.meaning.specs.Trails.{ground, Link, link_of}
 use Rattle.meaning.specs.Answers.{Moment, accepted, finish_tests, finish_number}
 use Rattle.meaning.proofs.Tests.{absent}
 use Rattle.meaning.proofs.Finish.{differ-exact, agreeing}
 use Rattle.table.specs.File.{table_of}
-use Rattle.table.specs.Good.{first_edition, GoodFile}
+use Rattle.table.specs.Good.{first_edition}
 use Rattle.table.specs.Calls.{Judged}
+use Rattle.sets.specs.Sets.{members}
 use Rattle.sets.proofs.Members.{members-exact}
 use Rattle.table.proofs.Stands.{good-table}
 use Rattle.session_meaning.specs.Sessions.{Entry, entry, Session, trails, stands}
-use Rattle.session_meaning.specs.Bytes.{link_count, link_at, piece_at, session_of, SoundBytes}
-use Rattle.session_meaning.specs.Numbers.{Measured}
+use Rattle.session_meaning.specs.Bytes.{link_count, link_at, piece_at, session_of}
 use Rattle.session_meaning.proofs.ByPlace.{has-at, at_has}
 use Rattle.step_meaning.specs.Promises.{Numbered, Proper, finish_on, Finished}
-use Rattle.finish.specs.Finishing.{final_at, FirstFinal, Like, Closed, Found}
-use Rattle.step_meaning.proofs.Told.{numbered-bad, numbered-two, numbered-by}
+use Rattle.finish.specs.Finishing.{final_at, FirstFinal, FoundFinal, Like}
+use Rattle.step_meaning.proofs.Told.{numbered-bad, numbered-by}
 use Rattle.finish.proofs.Accepting.{accepted-in, accepted-out, grounded}
 
 -- the number, test by test
@@ -43,9 +47,6 @@ module _ (T : Table) (room : ℕ) (m : Moment) where
 
   abbrev differ : Bool
   differ = any_of (λ v. any_of (λ w. not (same_word v w)) A) A
-
-  unclosed : (m.depth ≡ 0 → ⊥) → finish_number T room m ≡ 11
-  unclosed n = rw (ne_eqb m.depth 0 n)
 
   module _ (flat : m.depth ≡ 0) where
     not-final : ((w : Word) → w among A → ⊥) → finish_number T room m ≡ 12
@@ -95,12 +96,9 @@ module _ (file session out : List ℕ) where
       }
 
   -- what `check` refuses, finish refuses with the same answer
-  pub ended-bad-table : {number count : ℕ} → Judged file number → count ≡ 0 → (number ≡ 0 → ⊥)
-      → Finished file session out number count out
-  ended-bad-table j e some = ended-no (numbered-bad file session by-trails j some) e some
-
-  pub ended-bad-session : GoodFile first_edition file → (SoundBytes (table_of file) session → ⊥) → Finished file session out 2 0 out
-  ended-bad-session good bad = ended-no (numbered-two file session by-trails good bad) refl (λ z. omega arith)
+  pub ended-bad-table : (r : Refusal) → Judged file (refusal_number r)
+      → Finished file session out (refusal_number r) 0 out
+  ended-bad-table r j = ended-no (numbered-bad file session by-trails j (refusal-some r)) refl (refusal-some r)
 
   module _ (proper : Proper file session) where
     numbered : {number : ℕ} → by-trails ≡ number → Numbered file session by-trails number
@@ -112,9 +110,11 @@ module _ (file session out : List ℕ) where
     ended-refused : {number : ℕ} → by-trails ≡ number → (number ≡ 0 → ⊥) → Finished file session out number 0 out
     ended-refused e = ended-no (numbered e) refl
 
-    pub ended-unclosed : (byte session 0 ≡ 0 → ⊥) → Finished file session out 11 0 out
-    ended-unclosed n =
-        ended-refused (unclosed (table_of file) (length out) (stands (session_of session)) n) (λ z. omega arith)
+-- what is known of a session at depth 0, with the set of final states
+pub record Closed (file session : List ℕ) (finals : ℕ) : Type 0 where
+  pub proper : Proper file session
+  pub flat : byte session 0 ≡ 0
+  pub are : members finals ≡ (table_of file).final
 
 -- what waits, link by link
 module _ {file session : List ℕ} {finals : ℕ} (c : Closed file session finals) where
@@ -159,21 +159,18 @@ module _ {file session : List ℕ} {finals : ℕ} (c : Closed file session final
         sym (ap (λ (e : Entry). e.piece) o.2),
       )
 
-  pub ended-not-final : (out : List ℕ) {i : ℕ} → FirstFinal finals session i → i ≡ link_count session
-      → Finished file session out 12 0 out
-  ended-not-final out {i} f e =
+  pub ended-not-final : (out : List ℕ) → FoundFinal finals session None → Finished file session out 12 0 out
+  ended-not-final out f =
       ended-refused file session out proper (not-final T (length out) (stands S) c.flat none) (λ z. omega arith)
     where
       none : (w : Word) → w among W → ⊥
       none w m =
           let o = piece-out w m in
-          true≢false (sym o.2 ∙ f.before o.0 (omega (arith, o.1)))
+          true≢false (sym o.2 ∙ f o.0 o.1)
 
 -- where a link accepts, the first
-module _ {file session : List ℕ} {finals i : ℕ} (f : Found file session finals i) where
-  pub found-measured : Measured session
-  found-measured = record { count = f.closed.proper.sound.kept.count; short = f.closed.proper.sound.kept.short }
-
+module _ {file session : List ℕ} {finals i : ℕ} (c : Closed file session finals)
+    (f : FirstFinal finals session i) where
   abbrev x : Word
   x = piece_at session i
 
@@ -181,14 +178,14 @@ module _ {file session : List ℕ} {finals i : ℕ} (f : Found file session fina
   m = stands (session_of session)
 
   waits : x among accepted (table_of file) m.waiting
-  waits = piece-in f.closed i f.within (f.place.here f.within)
+  waits = piece-in c i f.within f.here
 
   abbrev All : Type 0
   All = (w : Word) → w among accepted (table_of file) m.waiting → w ≡ x
 
   all-like : Like finals session i → All
   all-like k w a =
-      let o = piece-out f.closed w a in
+      let o = piece-out c w a in
       o.3 ∙ go o.0 o.1 o.2 (below_or o.0 i)
     where
       later : (j : ℕ) → j < link_count session → final_at finals session j ≡ true → (i ≡ j) ⊎ (i < j)
@@ -197,36 +194,36 @@ module _ {file session : List ℕ} {finals i : ℕ} (f : Found file session fina
       later j l t (inr lt) = (k.each j lt l).same t
 
       go : (j : ℕ) → j < link_count session → final_at finals session j ≡ true → (j < i) ⊎ (i ≤ j) → piece_at session j ≡ x
-      go j l t (inl lt) = absurd (true≢false (sym t ∙ f.place.before j lt))
+      go j l t (inl lt) = absurd (true≢false (sym t ∙ f.before j lt))
       go j l t (inr le) = later j l t (eq-or-lt_of_le le)
 
   like-all : All → Like finals session i
   like-all h =
       record {
         each = λ j lt l.
-            record { same = λ t. h (piece_at session j) (piece-in f.closed j l t) };
+            record { same = λ t. h (piece_at session j) (piece-in c j l t) };
       }
 
   module _ (out : List ℕ) where
     pub ended-ambiguous : (Like finals session i → ⊥) → Finished file session out 13 0 out
     ended-ambiguous n =
-        ended-refused file session out f.closed.proper
-        (ambiguous (table_of file) (length out) m f.closed.flat waits (λ h. n (like-all h))) (λ z. omega arith)
+        ended-refused file session out c.proper
+        (ambiguous (table_of file) (length out) m c.flat waits (λ h. n (like-all h))) (λ z. omega arith)
 
     module _ (k : Like finals session i) where
       pub ended-no-room : length out < length x → Finished file session out 10 0 out
       ended-no-room l =
-          ended-refused file session out f.closed.proper
-          (no_room (table_of file) (length out) m f.closed.flat waits (all-like k) l) (λ z. omega arith)
+          ended-refused file session out c.proper
+          (no_room (table_of file) (length out) m c.flat waits (all-like k) l) (λ z. omega arith)
 
       pub ended-taken : {rest out' : List ℕ} → rest ≡ x → length rest ≤ length out
           → out' ≡ rest ++ drop (length rest) out → Finished file session out 0 (length rest) out'
       ended-taken {rest} e l w =
-          let c : common (accepted (table_of file) m.waiting) ≡ rest = common-all _ waits (all-like k) ∙ sym e in
-          let n = taken (table_of file) (length out) m f.closed.flat waits (all-like k) (rw e at l) in
+          let agree : common (accepted (table_of file) m.waiting) ≡ rest = common-all _ waits (all-like k) ∙ sym e in
+          let n = taken (table_of file) (length out) m c.flat waits (all-like k) (rw e at l) in
           record {
-            numbered = numbered file session out f.closed.proper n;
+            numbered = numbered file session out c.proper n;
             refused = λ h. absurd (h refl);
-            counted = λ z. ap length (sym c);
-            written = λ z. w ∙ ap (λ (v : Word). v ++ drop (length rest) out) (sym c);
+            counted = λ z. ap length (sym agree);
+            written = λ z. w ∙ ap (λ (v : Word). v ++ drop (length rest) out) (sym agree);
           }

@@ -23,11 +23,12 @@ use Rattle.table.specs.Calls.{FirstRow}
 use Rattle.table.proofs.Symbols.{none_before}
 use Rattle.table.proofs.Stands.{rows-of}
 use Rattle.join_shelf.specs.Shelved.{Gathers}
-use Rattle.join_shelf.specs.declared.Shelf.{Shelf}
+use Rattle.std.specs.Prelude.{Option, None}
+use Rattle.join_shelf.specs.declared.Stock.{Stock}
 use Rattle.join_nesting.proofs.ByRow.{row-among}
 use Rattle.join.specs.Reading.{keys_of, Suited, findings, findings_of}
 use Rattle.join.specs.declared.reading.Goal.{Goal}
-use Rattle.join.proofs.Passing.{Passing, passing-start, passing-skip}
+use Rattle.join.proofs.Passing.{Passing, passing-start, passing-skip, passing-out}
 
 -- what goes on by row `r` of the file, where it has the symbol
 abbrev pub by_row : List ℕ → List Word → Goal → ℕ → Word → Config → ℕ → List Word
@@ -99,17 +100,22 @@ module _ (second : List ℕ) (marks : List Word) (goal : Goal) where
         ∙ (λ i. each (λ r. each-each (keys_of marks goal) (endings (table_of second) v) (step r) i) (rows-of second i))
         ∙ each_map (λ r. findings_of second marks goal v (step r)) (row_at second) (up_to (row_count second)))
 
-    pub rows_start : {r : ℕ} {room : List ℕ} {s : Shelf} → FirstRow second a c.state r
+    pub rows_start : {r : ℕ} {room : List ℕ} {s : Option Stock} → FirstRow second a c.state r
         → Passing (by_row second marks goal a v c) room s r room s
     rows_start {r} f =
         passing-skip passing-start r (omega arith) (λ k l m. by-other k (none_before f k m))
 
-    pub rows_end : {w : Word} {r : ℕ} {room room' : List ℕ} {s s' : Shelf} → w ≡ a ∷ v
+    pub rows_end : {w : Word} {r : ℕ} {room room' : List ℕ} {s s' : Option Stock} → w ≡ a ∷ v
         → Passing (by_row second marks goal a v c) room s r room' s' → r ≤ row_count second
         → ((k : ℕ) → r ≤ k → k < row_count second → (row_at second k).symbol ≡ a → (row_at second k).from ≡ c.state → ⊥)
         → Gathers (findings second marks goal w c) room s s' room'
     rows_end e p l h =
         rw (e, ← by_rows) (passing-skip p (row_count second) l (λ k m n. by-other k (h k m n))).made
+
+    pub rows_out : {w : Word} {r : ℕ} {room room' : List ℕ} {s : Option Stock} → w ≡ a ∷ v
+        → Passing (by_row second marks goal a v c) room s r room' None → r ≤ row_count second
+        → Gathers (findings second marks goal w c) room s None room'
+    rows_out e p l = rw e (passing-out p (row_count second) l by_rows)
 
     -- what is asked of all endings is asked of those by a row
     pub suited-row : {w : Word} → w ≡ a ∷ v → (r : ℕ) → r < row_count second → {k : Class} {d : Config}

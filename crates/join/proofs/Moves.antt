@@ -7,31 +7,17 @@ use native.Mathlib.Numerals.{add-one}
 use native.Mathlib.Omega.{arith}
 use borrow.Author.Tests.{eqb-true, eq-eqb, ne_eqb}
 use lib.Dec.{eqb}
-use lib.ListN.{length, get_or, take, drop, set}
-use lib.Seq.{take-suc, take-suc-set, take-set-le, take-set-lt, take-take, take-append-le, length-take-le, take-length}
-use lib.Seq.{slice, paste, take-paste, drop-append-le, drop-set-lt, set-set, set-get_or, get_or-take}
+use lib.ListN.{length, get_or, take, drop, set, length-append}
+use lib.Seq.{take-suc, take-suc-set, take-set-le, take-set-lt, take-take, take-append-le, take-append_seam, length-take-le}
+use lib.Seq.{slice, drop-append-le, drop-set-lt, set-set, set-get_or, get_or-take}
 use Rattle.words.specs.Lists.{only}
 use Rattle.words.specs.Words.{Word}
+use Rattle.words.specs.Calls.{Appended as Put}
 use Rattle.meaning.specs.Table.{Class, unused, call, return, internal, code, Row}
 use Rattle.meaning.specs.Runs.{Config, config, shifted}
 use Rattle.meaning.specs.Joining.{after_row}
 use Rattle.join.specs.Reading.{stack_room, config_of, Fits, height_after, Exchanged, Appended, Untouched}
 use Rattle.join.specs.declared.reading.Cursor.{Cursor}
-
--- a row fits by its class
-module _ {x : Row} {c : Cursor} {tape : List ℕ} (from : c.state ≡ x.from) where
-  fits-plain : {k : Class} → (code k ≡ 0 → ⊥) → (code k ≡ 2 → ⊥) → Fits k x c tape
-  fits-plain f g = record { known = λ e. f (ap code e); from = from; top = λ e. absurd (g (ap code e)) }
-
-  pub fits-call : Fits call x c tape
-  fits-call = fits-plain (λ e. omega arith) (λ e. omega arith)
-
-  pub fits-internal : Fits internal x c tape
-  fits-internal = fits-plain (λ e. omega arith) (λ e. omega arith)
-
-  pub fits-return : 0 < c.height → get_or tape (c.height - 1) 0 ≡ x.marker → Fits return x c tape
-  fits-return l t =
-      record { known = λ e. let z = ap code e in omega arith; from = from; top = λ e. (l, t) }
 
 -- the stack's top is the last of its markers
 top_of : (stack : List ℕ) (h : ℕ) → h < length stack
@@ -168,18 +154,23 @@ moved {k} {x} {c} {d} {tape = tape} {tape'} {tape''} f a m to higher p low behin
         ∙ ap (λ (l : List ℕ). l ++ x.word) (drop-set-lt stack_room (take c.end tape) c.height x.marker low))
 
 -- a word written behind what was written so far
-pub appended : {tape tape' w v : Word} {end : ℕ} → v ≡ w → tape' ≡ paste tape end v (length v)
-    → end + length v ≤ length tape → length w ≤ 255 → Appended tape end w (end + length v) tape'
-appended {tape} {v = v} {end = end} e p room short =
+pub appended : {tape tape' w v : Word} {end longer : ℕ} → v ≡ w → Put tape end v longer tape' → length w ≤ 255
+    → Appended tape end w longer tape'
+appended {tape} {v = v} {end = end} {longer} e p short =
     record {
-      within = omega arith;
-      more = ap (λ (u : Word). end + length u) e;
+      within = let n = p.next in let l = p.within in omega arith;
+      more = p.next ∙ ap (λ (u : Word). end + length u) e;
       short = short;
-      is =
-          rw p
-          (take-paste tape end v (length v) (omega arith) (omega arith)
-          ∙ ap (λ (u : Word). take end tape ++ u) (take-length v ∙ e));
+      is = ap (take longer) p.is ∙ rest ∙ ap (λ (u : Word). take end tape ++ u) e;
     }
+  where
+    rest : take longer (take end tape ++ v ++ drop longer tape) ≡ take end tape ++ v
+    rest =
+        let before = length-take-le end tape (let n = p.next in let l = p.within in omega arith) in
+        let front : length (take end tape ++ v) ≡ longer =
+        let n = p.next in omega (arith, length-append (take end tape) v) in
+        ap (λ (n : ℕ). take n (take end tape ++ v ++ drop longer tape)) (sym front)
+        ∙ take-append_seam (take end tape ++ v) (drop longer tape)
 
 -- the configuration rests on the tape up to the end
 pub same-config : {tape tape' : List ℕ} (c : Cursor) → c.height ≤ c.end → Untouched tape c.end tape'

@@ -1,6 +1,6 @@
 // The marks and the rows of the joined table: each row of the first is read from each state of the second, and what it
 // gives is put on a shelf.
-ghost use Rattle.std.specs.Prelude.{◌≡◌, ◌<◌};
+ghost use Rattle.std.specs.Prelude.{◌≡◌, ◌<◌, Some};
 ghost use Rattle.meaning.specs.Table.{return};
 ghost use Rattle.meaning.specs.Joining.{pair_number};
 ghost use Rattle.table.specs.File.{row_count, row_at, table_of};
@@ -11,7 +11,7 @@ ghost use Rattle.join.specs.Gathering.{mark_of, given_from, given_at, given_by, 
 ghost use Rattle.join.specs.declared.gathering.Wanted.TheVariants.{Rows};
 
 use crate::reading::{Cursor, Goal, TAPE, WRITTEN, read};
-use join_shelf::{SHELF, Shelf, start, word};
+use join_shelf::{SHELF, Stock, start, word};
 use table::Class;
 use words::{copy, wide};
 
@@ -119,21 +119,20 @@ fn return_row(
     marks: &[u8; SHELF],
     rows: &mut [u8; SHELF],
     tape: &mut [u8; TAPE],
-    shelf: Shelf,
-) -> Shelf
+    shelf: Stock,
+) -> Option<Stock>
     requires at { At first.now second.now at.row at.state }
     requires mark_here { MarkHere first.now second.now marks.now i }
-    requires some_shelved { SomeShelved rows.old shelf }
+    requires some_shelved { SomeShelved rows.old (Some shelf) }
     ensures { Gathers (given_from first.now second.now at.row at.state
-        (mark_of (word_at marks.now i))) rows.old shelf result rows.new }
+        (mark_of (word_at marks.now i))) rows.old (Some shelf) result rows.new }
 {
     let key = word(marks, i);
     if wide(key[0]) != table::row_marker(first, at.row) {
-        return shelf;
+        return Some(shelf);
     }
     let left = &key[1..];
-    let all = &mut tape[..];
-    copy(all, 0, left);
+    copy(tape, 0, left);
     let goal = close_goal(first, second, at, i + 1);
     let cursor = Cursor {
         state: at.state,
@@ -153,22 +152,20 @@ fn return_rows(
     marks: &[u8; SHELF],
     rows: &mut [u8; SHELF],
     tape: &mut [u8; TAPE],
-    shelf: Shelf,
-) -> Shelf
+    shelf: Stock,
+) -> Option<Stock>
     requires at { (At first.now second.now at.row at.state)
         × ((table_of first.now).class (row_at first.now at.row).symbol ≡ return) }
     requires all_marks { AllMarks first.now second.now marks.now count }
-    requires some_shelved { SomeShelved rows.old shelf }
+    requires some_shelved { SomeShelved rows.old (Some shelf) }
     ensures { Gathers (given_at (Rows count) first.now second.now at.row at.state)
-        rows.old shelf result rows.new }
+        rows.old (Some shelf) result rows.new }
 {
     let mut made = shelf;
-    let mut i: usize = 0;
-    while i < count {
-        made = return_row(first, second, at, i, marks, rows, tape, made);
-        i += 1;
+    for i in 0..count {
+        made = return_row(first, second, at, i, marks, rows, tape, made)?;
     }
-    made
+    Some(made)
 }
 
 // What a row gives, read from a state.
@@ -180,16 +177,16 @@ fn gather_at(
     marks: &[u8; SHELF],
     rows: &mut [u8; SHELF],
     tape: &mut [u8; TAPE],
-    shelf: Shelf,
-) -> Shelf
+    shelf: Stock,
+) -> Option<Stock>
     requires at { At first.now second.now at.row at.state }
     requires marked { Marked wanted first.now second.now marks.now }
-    requires some_shelved { SomeShelved rows.old shelf }
+    requires some_shelved { SomeShelved rows.old (Some shelf) }
     ensures { Gathers (given_at wanted first.now second.now at.row at.state)
-        rows.old shelf result rows.new }
+        rows.old (Some shelf) result rows.new }
 {
     match planned(first, second, at, wanted) {
-        Plan::Skip => shelf,
+        Plan::Skip => Some(shelf),
         Plan::Read { goal } => {
             let cursor = Cursor {
                 state: at.state,
@@ -214,23 +211,20 @@ fn gather_row(
     marks: &[u8; SHELF],
     rows: &mut [u8; SHELF],
     tape: &mut [u8; TAPE],
-    shelf: Shelf,
-) -> Shelf
+    shelf: Stock,
+) -> Option<Stock>
     requires small { (Small first.now second.now) × (row < row_count first.now) }
     requires marked { Marked wanted first.now second.now marks.now }
-    requires some_shelved { SomeShelved rows.old shelf }
+    requires some_shelved { SomeShelved rows.old (Some shelf) }
     ensures { Gathers (given_by wanted first.now second.now row)
-        rows.old shelf result rows.new }
+        rows.old (Some shelf) result rows.new }
 {
-    let n = table::states(second);
     let mut made = shelf;
-    let mut state: usize = 0;
-    while state < n {
+    for state in 0..table::states(second) {
         let at = Spot { row, state };
-        made = gather_at(first, second, wanted, at, marks, rows, tape, made);
-        state += 1;
+        made = gather_at(first, second, wanted, at, marks, rows, tape, made)?;
     }
-    made
+    Some(made)
 }
 
 // What all rows give, on a shelf. While marks are gathered no mark is looked up: their room may hold anything.
@@ -241,17 +235,14 @@ pub fn gather(
     marks: &[u8; SHELF],
     rows: &mut [u8; SHELF],
     tape: &mut [u8; TAPE],
-) -> Shelf
+) -> Option<Stock>
     requires small { Small first.now second.now }
     requires marked { Marked wanted first.now second.now marks.now }
     ensures { Shelved (all_keys wanted (table_of first.now) (table_of second.now)) result rows.new }
 {
-    let n = table::row_count(first);
-    let mut made = start();
-    let mut row: usize = 0;
-    while row < n {
-        made = gather_row(first, second, wanted, row, marks, rows, tape, made);
-        row += 1;
+    let mut made = start()?;
+    for row in 0..table::row_count(first) {
+        made = gather_row(first, second, wanted, row, marks, rows, tape, made)?;
     }
-    made
+    Some(made)
 }

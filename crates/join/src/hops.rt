@@ -6,50 +6,50 @@ ghost use Rattle.meaning.specs.Sentences.{LongWord};
 ghost use Rattle.table.specs.File.{table_of};
 ghost use Rattle.table.specs.Good.{first_edition as edition, GoodFile};
 ghost use Rattle.join_shelf.specs.Shelved.{Standing};
-ghost use Rattle.numbers.specs.declared.Number.TheVariants.{BadTable};
 ghost use Rattle.join.specs.Hopping.{LongKey, Rowed};
-ghost use Rattle.join.specs.Calls.{JoinedBy};
+ghost use Rattle.join.specs.Calls.{refusal_of, table_of_refusal, JoinedBy};
 
 use crate::gathering::{Wanted, gather};
 use crate::reading::TAPE;
 use join_file::Sizes;
 use join_nesting::nests;
-use join_shelf::{SHELF, Shelf};
-use numbers::{Number, is_taken};
+use join_shelf::{SHELF, Stock};
+use numbers::Refusal;
 
-// What joining answers: its number, which table is bad (1 or 2; 0 where none is), and how many bytes it wrote.
-#[derive(Clone, Copy)]
-pub struct Joined {
-    pub number: Number,
-    pub table: u32,
-    pub count: usize,
+// Why two tables are not joined: one of them is bad, the first looked at first, or another refusal.
+#[derive(Clone, Copy, PartialEq, Eq)]
+pub enum Unjoined {
+    BadFirst,
+    BadSecond,
+    NotNested,
+    TooLarge,
+    NoRoom,
 }
 
-fn bad_table(table: u32) -> Joined
-    ensures { (result.number ≡ BadTable) × (result.table ≡ table) × (result.count ≡ 0) }
-{
-    Joined {
-        number: Number::BadTable,
-        table,
-        count: 0,
+impl From<Unjoined> for Refusal {
+    ghost from_gives = { λ unjoined refusal. refusal ≡ refusal_of unjoined };
+
+    fn from(unjoined: Unjoined) -> Refusal {
+        match unjoined {
+            Unjoined::BadFirst | Unjoined::BadSecond => Refusal::BadTable,
+            Unjoined::NotNested => Refusal::NotNested,
+            Unjoined::TooLarge => Refusal::TooLarge,
+            Unjoined::NoRoom => Refusal::NoRoom,
+        }
     }
 }
 
-fn refused(number: Number) -> Joined
-    ensures { (result.number ≡ number) × (result.table ≡ 0) × (result.count ≡ 0) }
-{
-    Joined {
-        number,
-        table: 0,
-        count: 0,
+impl Unjoined {
+    // Which table is bad, 1 or 2; 0 where none is.
+    pub fn table(self) -> u32
+        ensures { result ≡ table_of_refusal self }
+    {
+        match self {
+            Unjoined::BadFirst => 1,
+            Unjoined::BadSecond => 2,
+            Unjoined::NotNested | Unjoined::TooLarge | Unjoined::NoRoom => 0,
+        }
     }
-}
-
-// Whether a file is good.
-fn good(file: &[u8]) -> bool
-    ensures { Exact (GoodFile edition file.now) result }
-{
-    is_taken(table_check::check(file))
 }
 
 // Whether a word of a table has over 16 bytes.
@@ -57,13 +57,10 @@ fn long_words(file: &[u8]) -> bool
     requires { GoodFile edition file.now }
     ensures { Exact (LongWord 16 (table_of file.now)) result }
 {
-    let n = table::row_count(file);
-    let mut i: usize = 0;
-    while i < n {
+    for i in 0..table::row_count(file) {
         if 16 < table::row_word(file, i).len() {
             return true;
         }
-        i += 1;
     }
     false
 }
@@ -73,18 +70,16 @@ fn long_rows(rows: &[u8; SHELF], count: usize) -> bool
     requires { Standing rows.now count }
     ensures { Exact (LongKey rows.now count) result }
 {
-    let mut i: usize = 0;
-    while i < count {
+    for i in 0..count {
         if 259 < join_shelf::word(rows, i).len() {
             return true;
         }
-        i += 1;
     }
     false
 }
 
 // The same with a room of the call's own.
-pub fn join(first: &[u8], second: &[u8], out: &mut [u8]) -> Joined
+pub fn join(first: &[u8], second: &[u8], out: &mut [u8]) -> Result<usize, Unjoined>
     ensures { JoinedBy first.now second.now out.old result out.new }
 {
     let mut marks = [0u8; SHELF];
@@ -102,40 +97,33 @@ pub fn join_in(
     marks: &mut [u8; SHELF],
     rows: &mut [u8; SHELF],
     tape: &mut [u8; TAPE],
-) -> Joined
+) -> Result<usize, Unjoined>
     ensures { JoinedBy first.now second.now out.old result out.new }
 {
-    if !good(first) {
-        return bad_table(1);
+    if table_check::check(first).is_err() {
+        return Err(Unjoined::BadFirst);
     }
-    if !good(second) {
-        return bad_table(2);
+    if table_check::check(second).is_err() {
+        return Err(Unjoined::BadSecond);
     }
     if !nests(first, second) {
-        return refused(Number::NotNested);
+        return Err(Unjoined::NotNested);
     }
-    let too_large = refused(Number::TooLarge);
-    if long_words(first) {
-        return too_large;
+    if long_words(first) || 64 < table::states(first) * table::states(second) {
+        return Err(Unjoined::TooLarge);
     }
-    if 64 < table::states(first) * table::states(second) {
-        return too_large;
-    }
-    let Shelf::Made {
-        count: markers,
-        used: _,
-    } = gather(first, second, Wanted::Marks, rows, marks, tape)
-    else {
-        return too_large;
+    let Some(marked) = gather(first, second, Wanted::Marks, rows, marks, tape) else {
+        return Err(Unjoined::TooLarge);
     };
+    let markers = marked.count;
     if 64 < markers {
-        return too_large;
+        return Err(Unjoined::TooLarge);
     }
     let wanted = Wanted::Rows { count: markers };
-    let Shelf::Made { count, used } = gather(first, second, wanted, marks, rows, tape) else {
-        return too_large;
+    let Some(rowed) = gather(first, second, wanted, marks, rows, tape) else {
+        return Err(Unjoined::TooLarge);
     };
-    lay(first, second, out, markers, rows, count, used)
+    lay(first, second, out, markers, rows, rowed)
 }
 
 // Once all rows stand: those that are too large, and the room for the file.
@@ -145,30 +133,26 @@ fn lay(
     out: &mut [u8],
     markers: usize,
     rows: &[u8; SHELF],
-    count: usize,
-    used: usize,
-) -> Joined
-    requires { Rowed first.now second.now markers rows.now count used }
+    rowed: Stock,
+) -> Result<usize, Unjoined>
+    requires { Rowed first.now second.now markers rows.now rowed.count rowed.used }
     ensures { JoinedBy first.now second.now out.old result out.new }
 {
+    let count = rowed.count;
     if long_rows(rows, count) {
-        return refused(Number::TooLarge);
+        return Err(Unjoined::TooLarge);
     }
-    let words = used - 4 * count;
+    let words = rowed.used - 4 * count;
     if 4096 < words {
-        return refused(Number::TooLarge);
+        return Err(Unjoined::TooLarge);
     }
     if out.len() < 300 + 8 * count + words {
-        return refused(Number::NoRoom);
+        return Err(Unjoined::NoRoom);
     }
     let sizes = Sizes {
         markers,
         rows: count,
         words,
     };
-    Joined {
-        number: Number::Taken,
-        table: 0,
-        count: join_file::write(first, second, out, sizes, rows),
-    }
+    Ok(join_file::write(first, second, out, sizes, rows))
 }

@@ -6,5 +6,5 @@ mod gathering;
 mod hops;
 mod reading;
 
-pub use hops::{Joined, join, join_in};
+pub use hops::{Unjoined, join, join_in};
 pub use reading::TAPE;

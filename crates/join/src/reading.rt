@@ -1,6 +1,6 @@
 // The second table reads a word of the first: every run over it from a state and a stack, and what each ending gives is
 // put on a shelf.
-ghost use Rattle.std.specs.Prelude.{◌≡◌, [], ◌∷◌, reverse, ◌+◌, ◌<◌, ◌≤◌};
+ghost use Rattle.std.specs.Prelude.{◌≡◌, [], ◌∷◌, reverse, ◌+◌, ◌<◌, ◌≤◌, Some};
 ghost use Rattle.words.specs.Lists.{each};
 ghost use Rattle.meaning.specs.Table.{return};
 ghost use Rattle.meaning.specs.Runs.{config};
@@ -13,9 +13,9 @@ ghost use Rattle.join.specs.Reading.{config_of, Tested, height_after, Exchanged,
 ghost use Rattle.join.specs.Reading.{keys_of, Suited, findings, findings_of, Reads, Branches, Ranked, Numbered};
 ghost use Rattle.join.specs.Reading.{NumberOf, Untouched};
 
-use join_shelf::{SHELF, Shelf, full, place, put};
+use join_shelf::{SHELF, Stock, place, put};
 use table::Class;
-use words::{copy, wide};
+use words::{put_bytes, wide};
 
 // The tape: the stack from its bottom, 32 bytes, and from there on what was written.
 pub const TAPE: usize = 4128;
@@ -65,22 +65,16 @@ fn fits(second: &[u8], turn: Turn, tape: &[u8; TAPE]) -> bool
     requires { (GoodFile first_edition second.now) × (turn.row < row_count second.now) × (turn.cursor.height ≤ 32) }
     ensures { Tested (meant turn.class) (row_at second.now turn.row) turn.cursor tape.now result }
 {
-    let all = &tape[..];
     let height = turn.cursor.height;
     if turn.cursor.state != table::row_from(second, turn.row) {
         return false;
     }
-    let class = turn.class;
-    match class {
+    match turn.class {
         Class::Unused => false,
-        Class::Call => true,
+        Class::Call | Class::Internal => true,
         Class::Return => {
-            if height == 0 {
-                return false;
-            }
-            wide(all[height - 1]) == table::row_marker(second, turn.row)
+            0 < height && wide(tape[height - 1]) == table::row_marker(second, turn.row)
         }
-        Class::Internal => true,
     }
 }
 
@@ -90,10 +84,9 @@ fn height_after(class: Class, height: usize) -> usize
     ensures { result ≡ height_after (meant class) height }
 {
     match class {
-        Class::Unused => height,
+        Class::Unused | Class::Internal => height,
         Class::Call => height + 1,
         Class::Return => height - 1,
-        Class::Internal => height,
     }
 }
 
@@ -102,10 +95,7 @@ fn exchange(tape: &mut [u8; TAPE], at: usize, byte: u8) -> u8
     requires { at < 4128 }
     ensures { Exchanged tape.old at byte result tape.new }
 {
-    let all = &mut tape[..];
-    let old = all[at];
-    all[at] = byte;
-    old
+    std::mem::replace(&mut tape[at], byte)
 }
 
 // Appends the word of a row to what was written so far, and gives where that ends now.
@@ -114,18 +104,15 @@ fn append(second: &[u8], r: usize, tape: &mut [u8; TAPE], end: usize) -> usize
     ensures { Appended tape.old end (word_of second.now r) result tape.new }
 {
     let word = table::row_word(second, r);
-    let all = &mut tape[..];
-    copy(all, end, word);
-    end + word.len()
+    put_bytes(tape, end, word)
 }
 
 // Puts the mark of a marker and the stack.
-fn put_mark(marker: u8, stack: &[u8], rows: &mut [u8; SHELF], shelf: Shelf) -> Shelf
-    requires { SomeShelved rows.old shelf }
-    ensures { Gathers ((marker ∷ stack.now) ∷ []) rows.old shelf result rows.new }
+fn put_mark(marker: u8, stack: &[u8], rows: &mut [u8; SHELF], shelf: Stock) -> Option<Stock>
+    requires { SomeShelved rows.old (Some shelf) }
+    ensures { Gathers ((marker ∷ stack.now) ∷ []) rows.old (Some shelf) result rows.new }
 {
-    let head = [marker; 1];
-    put(rows, shelf, &head, stack)
+    put(rows, Some(shelf), &[marker], stack)
 }
 
 // Puts a joined row.
@@ -136,14 +123,13 @@ fn put_row(
     to: u8,
     out: &[u8],
     rows: &mut [u8; SHELF],
-    shelf: Shelf,
-) -> Shelf
-    requires { SomeShelved rows.old shelf }
+    shelf: Stock,
+) -> Option<Stock>
+    requires { SomeShelved rows.old (Some shelf) }
     ensures { Gathers ((symbol ∷ from ∷ marker ∷ to ∷ out.now) ∷ [])
-        rows.old shelf result rows.new }
+        rows.old (Some shelf) result rows.new }
 {
-    let head = [symbol, from, marker, to];
-    put(rows, shelf, &head, out)
+    put(rows, Some(shelf), &[symbol, from, marker, to], out)
 }
 
 // The number of a mark, from 1.
@@ -151,9 +137,7 @@ fn mark_number(marks: &[u8; SHELF], count: usize, marker: u8, stack: &[u8]) -> u
     requires { Numbered marks.now count }
     ensures { NumberOf (words_of marks.now count) (marker ∷ stack.now) result }
 {
-    let head = [marker; 1];
-    let at = place(marks, count, &head, stack);
-    (at + 1) as u8
+    (place(marks, count, &[marker], stack) + 1) as u8
 }
 
 // What an ending gives, of the whole stack and all that was written.
@@ -164,14 +148,14 @@ fn found(
     goal: Goal,
     marks: &[u8; SHELF],
     rows: &mut [u8; SHELF],
-    shelf: Shelf,
-) -> Shelf
+    shelf: Stock,
+) -> Option<Stock>
     requires ranked { Ranked marks.now goal }
     requires suited { Suited (marks_of marks.now goal) goal (config state (reverse stack.now) out.now ∷ []) }
-    requires some_shelved { SomeShelved rows.old shelf }
+    requires some_shelved { SomeShelved rows.old (Some shelf) }
     ensures { Gathers (keys_of (marks_of marks.now goal) goal
         (config state (reverse stack.now) out.now))
-        rows.old shelf result rows.new }
+        rows.old (Some shelf) result rows.new }
 {
     match goal {
         Goal::Mark { marker } => put_mark(marker, stack, rows, shelf),
@@ -192,8 +176,8 @@ fn found(
             base,
             marker,
         } => {
-            if stack.len() != 0 {
-                return shelf;
+            if !stack.is_empty() {
+                return Some(shelf);
             }
             let to = (wide(base) + state) as u8;
             put_row(symbol, from, marker, to, out, rows, shelf)
@@ -201,8 +185,7 @@ fn found(
     }
 }
 
-// All endings that go on by a row, if it fits; none is looked for once the shelf is full. The place that a call's
-// marker takes gets back what it held.
+// All endings that go on by a row, if it fits. The place that a call's marker takes gets back what it held.
 #[cycle(branch_read)]
 fn branch(
     second: &[u8],
@@ -212,23 +195,20 @@ fn branch(
     marks: &[u8; SHELF],
     rows: &mut [u8; SHELF],
     tape: &mut [u8; TAPE],
-    shelf: Shelf,
-) -> Shelf
+    shelf: Stock,
+) -> Option<Stock>
     requires branches { Branches second.now turn rest.now }
     requires ranked { Ranked marks.now goal }
     requires suited { Suited (marks_of marks.now goal) goal
         (each (endings (table_of second.now) rest.now) (goes_on second.now turn tape.old)) }
-    requires some_shelved { SomeShelved rows.old shelf }
+    requires some_shelved { SomeShelved rows.old (Some shelf) }
     ensures gathers { Gathers (findings_of second.now (marks_of marks.now goal) goal
         rest.now (goes_on second.now turn tape.old))
-        rows.old shelf result rows.new }
+        rows.old (Some shelf) result rows.new }
     ensures untouched { Untouched tape.old turn.cursor.end tape.new }
 {
-    if full(shelf) {
-        return shelf;
-    }
     if !fits(second, turn, tape) {
-        return shelf;
+        return Some(shelf);
     }
     let height = turn.cursor.height;
     let kept = exchange(tape, height, table::row_marker(second, turn.row) as u8);
@@ -244,7 +224,8 @@ fn branch(
     made
 }
 
-// All endings of the runs over a word, from a cursor: by each row of its first byte from the state. The stack and what was written before are left as they were.
+// All endings of the runs over a word, from a cursor: by each row of its first byte from the state. The stack and what
+// was written before are left as they were.
 #[cycle(branch_read)]
 pub fn read(
     second: &[u8],
@@ -254,48 +235,29 @@ pub fn read(
     marks: &[u8; SHELF],
     rows: &mut [u8; SHELF],
     tape: &mut [u8; TAPE],
-    shelf: Shelf,
-) -> Shelf
+    shelf: Stock,
+) -> Option<Stock>
     requires reads { Reads second.now cursor word.now }
     requires ranked { Ranked marks.now goal }
     requires suited { Suited (marks_of marks.now goal) goal
         (endings (table_of second.now) word.now (config_of cursor tape.old)) }
-    requires some_shelved { SomeShelved rows.old shelf }
+    requires some_shelved { SomeShelved rows.old (Some shelf) }
     ensures gathers { Gathers (findings second.now (marks_of marks.now goal) goal
         word.now (config_of cursor tape.old))
-        rows.old shelf result rows.new }
+        rows.old (Some shelf) result rows.new }
     ensures untouched { Untouched tape.old cursor.end tape.new }
 {
-    if word.len() == 0 {
+    let Some((symbol, rest)) = word.split_first() else {
         let all = &tape[..];
-        let height = cursor.height;
-        let end = cursor.end;
-        return found(
-            cursor.state,
-            &all[..height],
-            &all[WRITTEN..end],
-            goal,
-            marks,
-            rows,
-            shelf,
-        );
-    }
-    let symbol = word[0];
-    let rest = &word[1..];
-    let class = table::class_of(second, symbol);
-    let n = table::row_count(second);
+        let stack = &all[..cursor.height];
+        let written = &all[WRITTEN..cursor.end];
+        return found(cursor.state, stack, written, goal, marks, rows, shelf);
+    };
+    let class = table::class_of(second, *symbol);
     let mut made = shelf;
-    let mut row = table::first_row(second, symbol, cursor.state);
-    while row < n {
-        if table::row_symbol(second, row) != wide(symbol) {
-            return made;
-        }
-        if table::row_from(second, row) != cursor.state {
-            return made;
-        }
+    for row in table::rows_from(second, *symbol, cursor.state) {
         let turn = Turn { class, row, cursor };
-        made = branch(second, rest, turn, goal, marks, rows, tape, made);
-        row += 1;
+        made = branch(second, rest, turn, goal, marks, rows, tape, made)?;
     }
-    made
+    Some(made)
 }

@@ -12,7 +12,7 @@ use Rattle.words.specs.Lists.{up_to}
 use Rattle.words.specs.Words.{Word}
 use Rattle.words.specs.Calls.{Room, Appended}
 use Rattle.words.proofs.Lists.{each_append}
-use Rattle.words.proofs.Puts.{appended-none, appended-whole, appended-next}
+use Rattle.words.proofs.Puts.{appended-whole, appended-next}
 use Rattle.meaning.specs.Table.{Row, row_key}
 use Rattle.meaning.specs.Runs.{said}
 use Rattle.join_meaning.specs.Laid.{little_endian, entry_bytes, row_bytes, rows_bytes}
@@ -80,126 +80,65 @@ module _ (shelf : List ℕ) where
           rw f (omega (arith, more))
       go (inr h) ih = omega (arith, more, ih (omega arith))
 
-  -- the first `i` of `count` rows were put, and the words of those have `used` bytes
-  pub record RowsPut (out : List ℕ) (at count i : ℕ) (out' : List ℕ) (end used : ℕ) : Type 0 where
-    pub room : Room out at (rows_bytes 0 (rows count))
-    pub keys : Keys shelf count
-    pub behind : i ≤ count
+  -- what stands on a shelf of keys is a key
+  pub key-of : {count i : ℕ} {key : Word} → Keys shelf count → key ≡ word i → i < count → Key key
+  key-of {count} {i} keys e lt = subst Key (sym e) (keys.each i lt)
+
+  -- the first `i` rows were put, and their words have `used` bytes
+  pub record RowsPut (out : List ℕ) (at i : ℕ) (out' : List ℕ) (end used : ℕ) : Type 0 where
     pub put : Appended out at (rows_bytes 0 (rows i)) end out'
     pub is : used ≡ length (said (rows i))
     pub small : used ≤ 255 * i
 
-  pub rows_none : (out : List ℕ) (at count : ℕ) → Room out at (rows_bytes 0 (rows count)) → Keys shelf count
-      → RowsPut out at count 0 out at 0
-  rows_none out at count room keys =
-      record {
-        room = room;
-        keys = keys;
-        behind = omega arith;
-        put = appended-none out at (omega (arith, room.fits));
-        is = refl;
-        small = omega arith;
-      }
+  -- the next row, by its key
+  module _ {out : List ℕ} {at i : ℕ} {out' : List ℕ} {end used : ℕ} (p : RowsPut out at i out' end used)
+      (key : Word) where
+    pub row_room : (count start : ℕ) → Room out at (rows_bytes 0 (rows count)) → i < count
+        → Room out' end (row_bytes start (key_row key))
+    row_room count start room lt =
+        record {
+          fits =
+              omega (
+                arith,
+                room.fits,
+                p.put.next,
+                appended-whole p.put,
+                rows-length 0 (rows i),
+                rows-count i,
+                rows-length 0 (rows count),
+                rows-count count,
+              );
+        }
 
-  module _ {out : List ℕ} {at count i : ℕ} {out' : List ℕ} {end used : ℕ}
-      (p : RowsPut out at count i out' end used) where
-    pub rows_whole : length out' ≡ length out
-    rows_whole = appended-whole p.put
+    pub row_put : {out'' : List ℕ} {next : ℕ} → key ≡ word i → Key key
+        → Appended out' end (row_bytes used (key_row key)) next out''
+        → RowsPut out at (i + 1) out'' next (used + (length key - 4))
+    row_put e k a =
+        let l : length (said (rows (suc i))) ≡ length (said (rows i)) + length (drop 4 (word i)) =
+        ap length (said_more i) ∙ length-append (said (rows i)) (drop 4 (word i)) in
+        let d = length-drop 4 (word i) in
+        let f = ap length e in
+        record {
+          put = rw (add-one, bytes-more, ← p.is, ← e) (appended-next p.put a);
+          is = rw add-one (omega (arith, p.is));
+          small = omega (arith, k.short, p.small);
+        }
 
-    pub rows_all : count ≤ i → Appended out at (rows_bytes 0 (rows count)) end out'
-    rows_all le =
-        let e : i ≡ count = omega (arith, p.behind) in
-        rw e at p.put
+  -- the next word, as the part of its key behind the first four bytes
+  module _ (key : Word) (i : ℕ) (e : key ≡ word i) where
+    part-is : take (length key - 4) (drop 4 key) ≡ drop 4 (word i)
+    part-is =
+        take_all (length key - 4) (drop 4 key) (omega (arith, length-drop 4 key)) ∙ ap (drop 4) e
 
-    -- the next row, by its key
-    module _ (key : Word) (e : key ≡ word i) (lt : i < count) where
-      pub row-key : Key key
-      row-key = subst Key (sym e) (p.keys.each i lt)
-
-      pub row_room : (start : ℕ) → Room out' end (row_bytes start (key_row key))
-      row_room start =
+    module _ {out : List ℕ} {at : ℕ} {out' : List ℕ} {end : ℕ} (p : Appended out at (said (rows i)) end out') where
+      pub word_room : (count : ℕ) → Room out at (said (rows count)) → i < count
+          → Room out' end (take (length key - 4) (drop 4 key))
+      word_room count room lt =
           record {
             fits =
-                omega (
-                  arith,
-                  p.room.fits,
-                  p.put.next,
-                  rows_whole,
-                  rows-length 0 (rows i),
-                  rows-count i,
-                  rows-length 0 (rows count),
-                  rows-count count,
-                );
+                omega (arith, room.fits, p.next, appended-whole p, ap length part-is, said-below count i lt);
           }
 
-      pub row_put : {out'' : List ℕ} {next : ℕ} → Appended out' end (row_bytes used (key_row key)) next out''
-          → RowsPut out at count (i + 1) out'' next (used + (length key - 4))
-      row_put a =
-          let k = row-key in
-          let l : length (said (rows (suc i))) ≡ length (said (rows i)) + length (drop 4 (word i)) =
-          ap length (said_more i) ∙ length-append (said (rows i)) (drop 4 (word i)) in
-          let d = length-drop 4 (word i) in
-          let f = ap length e in
-          record {
-            room = p.room;
-            keys = p.keys;
-            behind = omega arith;
-            put = rw (add-one, bytes-more, ← p.is, ← e) (appended-next p.put a);
-            is = rw add-one (omega (arith, p.is));
-            small = omega (arith, k.short, p.small);
-          }
-
-  -- the words of the first `i` of `count` rows were put
-  pub record WordsPut (out : List ℕ) (at count i : ℕ) (out' : List ℕ) (end : ℕ) : Type 0 where
-    pub room : Room out at (said (rows count))
-    pub keys : Keys shelf count
-    pub behind : i ≤ count
-    pub put : Appended out at (said (rows i)) end out'
-
-  pub words-none : (out : List ℕ) (at count : ℕ) → Room out at (said (rows count)) → Keys shelf count
-      → WordsPut out at count 0 out at
-  words-none out at count room keys =
-      record {
-        room = room;
-        keys = keys;
-        behind = omega arith;
-        put = appended-none out at (omega (arith, room.fits));
-      }
-
-  module _ {out : List ℕ} {at count i : ℕ} {out' : List ℕ} {end : ℕ} (p : WordsPut out at count i out' end) where
-    pub words-whole : length out' ≡ length out
-    words-whole = appended-whole p.put
-
-    pub words-all : count ≤ i → Appended out at (said (rows count)) end out'
-    words-all le =
-        let e : i ≡ count = omega (arith, p.behind) in
-        rw e at p.put
-
-    -- the next word, as the part of its key behind the first four bytes
-    module _ (key : Word) (e : key ≡ word i) (lt : i < count) where
-      pub word-key : Key key
-      word-key = subst Key (sym e) (p.keys.each i lt)
-
-      abbrev part : Word
-      part = take (length key - 4) (drop 4 key)
-
-      part-is : part ≡ drop 4 (word i)
-      part-is =
-          take_all (length key - 4) (drop 4 key) (omega (arith, length-drop 4 key)) ∙ ap (drop 4) e
-
-      pub word_room : Room out' end part
-      word_room =
-          record {
-            fits =
-                omega (arith, p.room.fits, p.put.next, words-whole, ap length part-is, said-below count i lt);
-          }
-
-      pub word-put : {out'' : List ℕ} {next : ℕ} → Appended out' end part next out''
-          → WordsPut out at count (i + 1) out'' next
-      word-put a =
-          record {
-            room = p.room;
-            keys = p.keys;
-            behind = omega arith;
-            put = rw (add-one, said_more, ← part-is) (appended-next p.put a);
-          }
+      pub word-put : {out'' : List ℕ} {next : ℕ} → Appended out' end (take (length key - 4) (drop 4 key)) next out''
+          → Appended out at (said (rows (i + 1))) next out''
+      word-put a = rw (add-one, said_more, ← part-is) (appended-next p a)

@@ -2,14 +2,14 @@
 // it, and answers the place after it.
 #![tactic(auto)]
 
-ghost use Rattle.std.specs.Prelude.{◌≡◌, [], ◌∷◌, ◌≤◌, length};
+ghost use Rattle.std.specs.Prelude.{◌≡◌, ◌≤◌, length};
 ghost use Rattle.words.specs.Calls.{Room, Appended};
 ghost use Rattle.meaning.specs.Parts.{head_size};
 ghost use Rattle.meaning.specs.Runs.{said};
 ghost use Rattle.meaning.specs.Joining.{pairs_of};
 ghost use Rattle.sets.specs.Sets.{members};
 ghost use Rattle.table.specs.File.{table_of};
-ghost use Rattle.join_meaning.specs.Laid.{little_endian, entry_bytes, set_of, row_bytes, rows_bytes};
+ghost use Rattle.join_meaning.specs.Laid.{entry_bytes, set_of, row_bytes, rows_bytes};
 ghost use Rattle.join_file.specs.Written.{key_row, rows_in, paired_file, head_of, entries_bytes, sets_bytes};
 ghost use Rattle.join_file.specs.Written.{Paired, TwoTables, Key, Keys, Laying};
 
@@ -17,7 +17,7 @@ use join_shelf::SHELF;
 use table::{
     CLASS_COUNT, CLASSES_START, FINAL_START, ROW_SIZE, ROWS_START, SET_SIZE, STARTING_START,
 };
-use words::{put_byte, put_bytes};
+use words::put_bytes;
 
 // How many markers and rows the joined table has, and how many bytes its words have together.
 #[derive(Clone, Copy)]
@@ -27,47 +27,13 @@ pub struct Sizes {
     pub words: usize,
 }
 
-// A number of two bytes, the lowest first.
-fn put_two(out: &mut [u8], at: usize, n: usize) -> usize
-    requires { Room out.old at (little_endian 2 n) }
-    ensures { Appended out.old at (little_endian 2 n) result out.new }
-{
-    let next = put_byte(out, at, (n % 256) as u8);
-    put_byte(out, next, (n / 256 % 256) as u8)
-}
-
-fn put_four(out: &mut [u8], at: usize, a: u8, b: u8, c: u8, d: u8) -> usize
-    requires { Room out.old at (a ∷ b ∷ c ∷ d ∷ []) }
-    ensures { Appended out.old at (a ∷ b ∷ c ∷ d ∷ []) result out.new }
-{
-    let second = put_byte(out, at, a);
-    let third = put_byte(out, second, b);
-    let fourth = put_byte(out, third, c);
-    put_byte(out, fourth, d)
-}
-
-// A number of eight bytes, the lowest first.
-fn put_eight(out: &mut [u8], at: usize, n: u64) -> usize
-    requires { Room out.old at (little_endian 8 n) }
-    ensures { Appended out.old at (little_endian 8 n) result out.new }
-{
-    let mut end = at;
-    let mut rest = n;
-    let mut i: usize = 0;
-    while i < 8 {
-        end = put_byte(out, end, (rest % 256) as u8);
-        rest = rest / 256;
-        i += 1;
-    }
-    end
-}
-
+// Two numbers, each in two bytes, the lowest first.
 fn put_entry(out: &mut [u8], at: usize, start: usize, size: usize) -> usize
     requires { Room out.old at (entry_bytes start size) }
     ensures { Appended out.old at (entry_bytes start size) result out.new }
 {
-    let next = put_two(out, at, start);
-    put_two(out, next, size)
+    let next = put_bytes(out, at, &start.to_le_bytes()[..2]);
+    put_bytes(out, next, &size.to_le_bytes()[..2])
 }
 
 // The five entries, by how long the rows and the words are.
@@ -87,7 +53,7 @@ fn put_row(out: &mut [u8], at: usize, key: &[u8], start: usize) -> usize
     requires { (Room out.old at (row_bytes start (key_row key.now))) × (Key key.now) }
     ensures { Appended out.old at (row_bytes start (key_row key.now)) result out.new }
 {
-    let next = put_four(out, at, key[0], key[1], key[3], key[2]);
+    let next = put_bytes(out, at, &[key[0], key[1], key[3], key[2]]);
     put_entry(out, next, start, key.len() - 4)
 }
 
@@ -101,12 +67,10 @@ fn put_rows(out: &mut [u8], at: usize, count: usize, rows: &[u8; SHELF]) -> usiz
 {
     let mut end = at;
     let mut start: usize = 0;
-    let mut i: usize = 0;
-    while i < count {
+    for i in 0..count {
         let key = join_shelf::word(rows, i);
         end = put_row(out, end, key, start);
         start += key.len() - 4;
-        i += 1;
     }
     end
 }
@@ -119,11 +83,9 @@ fn put_words(out: &mut [u8], at: usize, count: usize, rows: &[u8; SHELF]) -> usi
         (said (rows_in rows.now count)) result out.new }
 {
     let mut end = at;
-    let mut i: usize = 0;
-    while i < count {
+    for i in 0..count {
         let key = join_shelf::word(rows, i);
         end = put_bytes(out, end, &key[4..]);
-        i += 1;
     }
     end
 }
@@ -137,7 +99,7 @@ fn pairs(one: u64, other: u64, n: usize) -> u64
     let mut rest = one;
     while rest != 0 {
         let p = sets::lowest(rest) as usize;
-        all = all | (other << (p * n));
+        all |= other << (p * n);
         rest = sets::without_lowest(rest);
     }
     all
@@ -153,8 +115,8 @@ fn put_sets(first: &[u8], second: &[u8], out: &mut [u8], at: usize) -> usize
     let n = table::states(second);
     let starting = pairs(table::starting_set(first), table::starting_set(second), n);
     let accepting = pairs(table::final_set(first), table::final_set(second), n);
-    let next = put_eight(out, at, starting);
-    put_eight(out, next, accepting)
+    let next = put_bytes(out, at, &starting.to_le_bytes());
+    put_bytes(out, next, &accepting.to_le_bytes())
 }
 
 // The first eight bytes.
@@ -166,7 +128,7 @@ fn put_head(first: &[u8], second: &[u8], out: &mut [u8], markers: usize, size: u
     let states = table::states(first) * table::states(second);
     let depth = table::depth_cap(first);
     let waiting = table::waiting_cap(second);
-    let next = put_four(out, 0, 1, states as u8, markers as u8, depth as u8);
+    let next = put_bytes(out, 0, &[1, states as u8, markers as u8, depth as u8]);
     put_entry(out, next, waiting, size)
 }
 

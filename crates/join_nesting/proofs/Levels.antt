@@ -1,8 +1,8 @@
 -- Levels: a word read symbol by symbol, and how far a level can rise. Assumes nothing.
-use mathlib.Core.Path.{◌≡◌, refl, sym, ◌∙◌, ap}
-use mathlib.Core.Option.{some, none, none-ne-some}
+use mathlib.Core.Path.{◌≡◌, refl, sym, ◌∙◌}
+use mathlib.Core.Option.{some, none-ne-some}
 use mathlib.Core.List.{[], ◌∷◌}
-use Prim.Native.Nat.{ℕ, zero, suc, ◌+◌, ◌-◌, ◌≤◌, ◌<◌}
+use Prim.Native.Nat.{ℕ, zero, suc, ◌+◌, ◌≤◌, ◌<◌}
 use native.Mathlib.Numerals.{add-one}
 use native.Mathlib.Omega.{arith}
 use lib.ListN.{length, drop, get_or, drop_of_length-le}
@@ -19,11 +19,6 @@ after_small call d {n} e = let f : suc d ≡ n = cc in omega arith
 after_small return zero {n} e = absurd (none-ne-some n e)
 after_small return (suc d) {n} e = let f : d ≡ n = cc in omega arith
 after_small internal d {n} e = let f : d ≡ n = cc in omega arith
-
--- a return closes one
-pub one_less : (d : ℕ) → 0 < d → some (d - 1) ≡ after return d
-one_less zero l = absurd (omega arith)
-one_less (suc d) l = ap some (omega arith)
 
 module _ (k : ℕ → Class) where
   pub level-small : (w : Word) (d : ℕ) {n : ℕ} → level k w d ≡ some n → n ≤ d + length w
@@ -50,9 +45,6 @@ module _ (k : ℕ → Class) where
         let s = after_small (k (get_or w i 0)) many (sym e) in
         let f = r.few in
         record { within = omega arith; few = omega arith; rest = one_more lt ∙ rw (← e) }
-
-    pub read-broken : i < length w → none ≡ after (k (get_or w i 0)) many → none ≡ level k w from
-    read-broken lt e = sym (one_more lt ∙ rw (← e))
 
     pub read-end : length w ≤ i → some many ≡ level k w from
     read-end le = sym (r.rest ∙ rw (drop_of_length-le w le))

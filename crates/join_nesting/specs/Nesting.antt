@@ -1,14 +1,12 @@
 -- What the parts of the nesting test ask and answer: document 01, "Joining two hops".
-use Rattle.std.specs.Prelude.{◌≡◌, List, ◌++◌, ℕ, ◌<◌, ◌≤◌}
-use Rattle.std.proofs.Math.Option.{Option, some, none}
+use Rattle.std.specs.Prelude.{◌≡◌, List, ◌++◌, ℕ, ◌<◌, ◌≤◌, Option, Some, None}
+use Rattle.std.proofs.Math.Option.{Option as Level, some, none}
 use Rattle.words.specs.Lists.{◌among◌}
 use Rattle.words.specs.Words.{Word, Bytes}
 use Rattle.meaning.specs.Table.{Class, unused, call, return, internal, Row, Table}
 use Rattle.meaning.specs.Nesting.{Nested, level}
 use Rattle.table.specs.File.{row_count, row_at, table_of}
 use Rattle.table.specs.Good.{first_edition as edition, GoodFile}
-use Rattle.join_nesting.specs.declared.Level.{Level}
-use Rattle.join_nesting.specs.declared.Level.TheVariants.{Broken, Open}
 
 -- two tables that `check` took, the first hop's and the second's
 pub record Hops (a b : List ℕ) : Type 0 where
@@ -18,16 +16,16 @@ pub record Hops (a b : List ℕ) : Type 0 where
   pub second-bytes : Bytes b
 
 -- how many calls are open; none where a return closed nothing, or for a symbol of class 0
-abbrev pub level_of : Level → Option ℕ
-level_of Broken = none
-level_of (Open many) = some many
+abbrev pub level_of : Option ℕ → Level ℕ
+level_of None = none
+level_of (Some many) = some many
 
 -- no more than one word can open
-pub record Few (from : Level) : Type 0 where
-  pub few : (many : ℕ) → from ≡ Open many → many ≤ 255
+pub record Few (from : Option ℕ) : Type 0 where
+  pub few : (many : ℕ) → from ≡ Some many → many ≤ 255
 
 -- what the word of row `i` leaves open
-pub record Opens (a b : List ℕ) (i : ℕ) (from : Level) : Type 0 where
+pub record Opens (a b : List ℕ) (i : ℕ) (from : Option ℕ) : Type 0 where
   pub hops : Hops a b
   pub within : i < row_count a
   pub is : level_of from ≡ level (table_of b).class (row_at a i).word 0

@@ -14,59 +14,42 @@ ghost use Rattle.join_nesting.specs.Nesting.{PairNests, PairsNest, RowNests, Row
 
 use table::Class;
 
-// How many headers are open; broken where a return closed nothing, or a symbol has class 0.
-#[derive(Clone, Copy)]
-enum Level {
-    Broken,
-    Open { many: usize },
-}
-
-// After one symbol. A word has at most 255 bytes, and two are read in a row at most.
-fn after_symbol(second: &[u8], symbol: u8, many: usize) -> Level
+// How many headers are open after one symbol; none where a return closed nothing, or the symbol has class 0. A word has at
+// most 255 bytes, and two are read in a row at most.
+fn after_symbol(second: &[u8], symbol: u8, many: usize) -> Option<usize>
     requires { (GoodFile first_edition second.now) × (many < 510) }
     ensures { level_of result ≡ after ((table_of second.now).class symbol) many }
 {
     match table::class_of(second, symbol) {
-        Class::Unused => Level::Broken,
-        Class::Call => Level::Open { many: many + 1 },
-        Class::Return => match many {
-            0 => Level::Broken,
-            _ => Level::Open { many: many - 1 },
-        },
-        Class::Internal => Level::Open { many },
+        Class::Unused => None,
+        Class::Call => Some(many + 1),
+        Class::Return => many.checked_sub(1),
+        Class::Internal => Some(many),
     }
 }
 
 // After a word.
-fn after_word(second: &[u8], word: &[u8], from: usize) -> Level
+fn after_word(second: &[u8], word: &[u8], from: usize) -> Option<usize>
     requires { (GoodFile first_edition second.now) × (from ≤ 255) × (length word.now ≤ 255) }
     ensures { level_of result ≡ level (table_of second.now).class word.now from }
 {
     let mut many = from;
-    let mut i: usize = 0;
-    while i < word.len() {
-        let Level::Open { many: next } = after_symbol(second, word[i], many) else {
-            return Level::Broken;
-        };
-        many = next;
-        i += 1;
+    for symbol in word {
+        many = after_symbol(second, *symbol, many)?;
     }
-    Level::Open { many }
+    Some(many)
 }
 
 // Whether a word closes all that is open, and all that it opens.
-fn closes(second: &[u8], word: &[u8], from: Level) -> bool
+fn closes(second: &[u8], word: &[u8], from: Option<usize>) -> bool
     requires { (GoodFile first_edition second.now) × (Few from) × (length word.now ≤ 255) }
     ensures { result ≡ is_zero
         (and_then (level_of from) (level (table_of second.now).class word.now)) }
 {
-    match from {
-        Level::Broken => false,
-        Level::Open { many } => match after_word(second, word, many) {
-            Level::Broken => false,
-            Level::Open { many: left } => left == 0,
-        },
-    }
+    let Some(many) = from else {
+        return false;
+    };
+    after_word(second, word, many) == Some(0)
 }
 
 // Whether a symbol has another class than 0.
@@ -74,12 +57,7 @@ fn known(second: &[u8], symbol: u8) -> bool
     requires { GoodFile first_edition second.now }
     ensures { Exact ((table_of second.now).class symbol ≡ unused → ⊥) result }
 {
-    match table::class_of(second, symbol) {
-        Class::Unused => false,
-        Class::Call => true,
-        Class::Return => true,
-        Class::Internal => true,
-    }
+    table::class_of(second, symbol) != Class::Unused
 }
 
 // The same of all bytes of a word.
@@ -87,14 +65,7 @@ fn all_known(second: &[u8], word: &[u8]) -> bool
     requires { GoodFile first_edition second.now }
     ensures { Exact (Known (table_of second.now).class word.now) result }
 {
-    let mut i: usize = 0;
-    while i < word.len() {
-        if !known(second, word[i]) {
-            return false;
-        }
-        i += 1;
-    }
-    true
+    word.iter().all(|symbol| known(second, *symbol))
 }
 
 // The same of all words of a table.
@@ -102,19 +73,16 @@ fn words_known(first: &[u8], second: &[u8]) -> bool
     requires { Hops first.now second.now }
     ensures { Exact (AllKnown (table_of second.now).class (table_of first.now)) result }
 {
-    let n = table::row_count(first);
-    let mut i: usize = 0;
-    while i < n {
+    for i in 0..table::row_count(first) {
         if !all_known(second, table::row_word(first, i)) {
             return false;
         }
-        i += 1;
     }
     true
 }
 
 // Whether row `j` is no partner of call row `i`, whose word ended at `from`, or closes what that word left open.
-fn pair_nests(first: &[u8], second: &[u8], i: usize, from: Level, j: usize) -> bool
+fn pair_nests(first: &[u8], second: &[u8], i: usize, from: Option<usize>, j: usize) -> bool
     requires { (Opens first.now second.now i from) × (j < row_count first.now) }
     ensures { Exact (PairNests (table_of second.now).class (table_of first.now)
         (row_at first.now i) (row_at first.now j)) result }
@@ -123,26 +91,21 @@ fn pair_nests(first: &[u8], second: &[u8], i: usize, from: Level, j: usize) -> b
         return true;
     }
     match table::row_class(first, j) {
-        Class::Unused => true,
-        Class::Call => true,
+        Class::Unused | Class::Call | Class::Internal => true,
         Class::Return => closes(second, table::row_word(first, j), from),
-        Class::Internal => true,
     }
 }
 
 // The same of all rows.
-fn pairs_nest(first: &[u8], second: &[u8], i: usize, from: Level) -> bool
+fn pairs_nest(first: &[u8], second: &[u8], i: usize, from: Option<usize>) -> bool
     requires { Opens first.now second.now i from }
     ensures { Exact (PairsNest (table_of second.now).class (table_of first.now)
         (row_at first.now i)) result }
 {
-    let n = table::row_count(first);
-    let mut j: usize = 0;
-    while j < n {
+    for j in 0..table::row_count(first) {
         if !pair_nests(first, second, i, from, j) {
             return false;
         }
-        j += 1;
     }
     true
 }
@@ -155,10 +118,9 @@ fn row_nests(first: &[u8], second: &[u8], i: usize) -> bool
 {
     let word = table::row_word(first, i);
     match table::row_class(first, i) {
-        Class::Unused => true,
+        Class::Unused | Class::Return => true,
         Class::Call => pairs_nest(first, second, i, after_word(second, word, 0)),
-        Class::Return => true,
-        Class::Internal => closes(second, word, Level::Open { many: 0 }),
+        Class::Internal => closes(second, word, Some(0)),
     }
 }
 
@@ -167,13 +129,10 @@ fn rows_nest(first: &[u8], second: &[u8]) -> bool
     requires { Hops first.now second.now }
     ensures { Exact (RowsNest (table_of second.now).class (table_of first.now)) result }
 {
-    let n = table::row_count(first);
-    let mut i: usize = 0;
-    while i < n {
+    for i in 0..table::row_count(first) {
         if !row_nests(first, second, i) {
             return false;
         }
-        i += 1;
     }
     true
 }
@@ -183,8 +142,5 @@ pub fn nests(first: &[u8], second: &[u8]) -> bool
     requires { Hops first.now second.now }
     ensures { Exact (Nests (table_of second.now).class (table_of first.now)) result }
 {
-    if !words_known(first, second) {
-        return false;
-    }
-    rows_nest(first, second)
+    words_known(first, second) && rows_nest(first, second)
 }

@@ -1,5 +1,5 @@
 -- What holds of a shelf: at the start, and with more words put on it; that it stays full. Assumes nothing.
-use mathlib.Core.Path.{◌≡◌, refl, sym, ap, subst}
+use mathlib.Core.Path.{◌≡◌, ap, subst}
 use mathlib.Core.Logic.{◌⊎◌, inl, inr}
 use mathlib.Core.List.{List, [], ◌∷◌, ◌++◌, append-nil, append_assoc}
 use Prim.Native.Nat.{ℕ, ◌<◌, ◌≤◌}
@@ -7,48 +7,29 @@ use native.Mathlib.Omega.{arith}
 use lib.ListN.{length}
 use Rattle.words.specs.Words.{Word}
 use Rattle.join_shelf.specs.Shelved.{shelf_cap, shelf_room, kept, total, Held, Shelved, Gathers}
-use Rattle.join_shelf.specs.declared.Shelf.{Shelf}
-use Rattle.join_shelf.specs.declared.Shelf.TheVariants.{Full, Made}
+use Rattle.std.specs.Prelude.{Option, Some, None}
+use Rattle.join_shelf.specs.declared.Stock.{Stock}
 use Rattle.join_shelf.proofs.Lists.{add-grows, kept_more}
 
--- the two kinds of shelf
+-- a shelf with words, and one that had no room
 
-pub shelved-made : {words : List Word} {room : List ℕ} {count used : ℕ}
-    → Held words room count used → Shelved words (Made count used) room
-shelved-made {words} {room} {count} {used} s =
+pub shelved-made : {words : List Word} {room : List ℕ} {stock : Stock}
+    → Held words room stock.count stock.used → Shelved words (Some stock) room
+shelved-made {words} {room} {stock} s =
     record { made = is; full = λ e. absurd (let z : ◌≡◌ {A = ℕ} 0 1 = cc in omega arith) }
   where
-    is : (n m : ℕ) → Made count used ≡ Made n m → Held words room n m
-    is n m e =
-        let a : count ≡ n = cc in
-        let b : used ≡ m = cc in
-        rw (← a, ← b) s
+    is : (other : Stock) → Some stock ≡ Some other → Held words room other.count other.used
+    is other e =
+        let a : stock ≡ other = cc in
+        subst (λ (t : Stock). Held words room t.count t.used) a s
 
 abbrev pub Outgrown : List Word → Type 0
 Outgrown words = (shelf_cap < length (kept words)) ⊎ (shelf_room < total (kept words))
 
 pub shelved-full : {words : List Word} {room : List ℕ} → Outgrown words
-    → Shelved words Full room
+    → Shelved words None room
 shelved-full o =
-    record { made = λ n m e. absurd (let z : ◌≡◌ {A = ℕ} 0 1 = cc in omega arith); full = λ e. o }
-
-pub shelved-none : (room : List ℕ) → Shelved [] (Made 0 0) room
-shelved-none room =
-    shelved-made
-    (record {
-      standing = record {
-        few = omega arith;
-        slots = λ i l. absurd (omega arith);
-        edges = λ k l. absurd (omega arith);
-        ends = λ k l. absurd (omega arith);
-        rise = tt;
-      };
-      are = refl;
-      filled = refl;
-      fits = omega arith;
-      behind = λ k l. absurd (omega arith);
-      last = λ l. absurd (omega arith);
-    })
+    record { made = λ n e. absurd (let z : ◌≡◌ {A = ℕ} 0 1 = cc in omega arith); full = λ e. o }
 
 -- what is too much stays too much
 
@@ -68,25 +49,21 @@ outgrown-more made more (inr h) = inr (omega (arith, (kept-grows made more).1))
 
 -- words put after whatever was before
 
-module _ {room : List ℕ} {s : Shelf} where
+module _ {room : List ℕ} {s : Option Stock} where
   pub gathers-none : Gathers [] room s s room
   gathers-none made h = rw (append-nil made) h
 
   -- a full shelf stays full, whatever the room holds
-  pub gathers-full : (more : List Word) {room' : List ℕ} → s ≡ Full
-      → Gathers more room s Full room'
+  pub gathers-full : (more : List Word) {room' : List ℕ} → s ≡ None
+      → Gathers more room s None room'
   gathers-full more e made h = shelved-full (outgrown-more made more (h.full e))
 
-  pub gathers-still : (more : List Word) → s ≡ Full → Gathers more room s s room
-  gathers-still more e made h =
-      subst (λ (r : Shelf). Shelved (made ++ more) r room) (sym e) (gathers-full more e made h)
-
-  module _ {A room' : List _} {s' : Shelf}
+  module _ {A room' : List _} {s' : Option Stock}
       (a : Gathers A room s s' room') where
     pub gathers-as : {B : List Word} → A ≡ B → Gathers B room s s' room'
     gathers-as e = rw (← e) a
 
-    pub gathers-both : {B room'' : List _} {s'' : Shelf}
+    pub gathers-both : {B room'' : List _} {s'' : Option Stock}
         → Gathers B room' s' s'' room''
         → Gathers (A ++ B) room s s'' room''
     gathers-both {B} b made h = rw (← append_assoc made A B) (b (made ++ A) (a made h))

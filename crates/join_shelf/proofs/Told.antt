@@ -1,6 +1,6 @@
 -- What the functions of a shelf promise allows one answer: the shelf with its words, and a word's place. What the room
 -- holds beside the words is not promised. Assumes nothing.
-use mathlib.Core.Path.{◌≡◌, refl, sym, ◌∙◌, ap₂}
+use mathlib.Core.Path.{◌≡◌, refl, sym, ◌∙◌}
 use mathlib.Core.Logic.{◌⊎◌, inl, inr}
 use mathlib.Core.List.{List, []}
 use Prim.Native.Nat.{ℕ, ◌<◌, ◌≤◌}
@@ -8,8 +8,8 @@ use native.Mathlib.Omega.{arith}
 use Rattle.words.specs.Words.{Word}
 use Rattle.words.proofs.Lists.{below_or}
 use Rattle.join_shelf.specs.Shelved.{words_of, Held, Shelved, Bare, SomeShelved, Gathers, WordPlace}
-use Rattle.join_shelf.specs.declared.Shelf.{Shelf}
-use Rattle.join_shelf.specs.declared.Shelf.TheVariants.{Full, Made}
+use Rattle.std.specs.Prelude.{Option, Some, None}
+use Rattle.join_shelf.specs.declared.Stock.{Stock}
 use Rattle.join_shelf.proofs.Rooms.{held-count}
 use Rattle.join_shelf.proofs.Laws.{Outgrown}
 
@@ -20,37 +20,39 @@ not-outgrown h (inl l) = omega (arith, held-count h, h.standing.few)
 not-outgrown h (inr l) = omega (arith, h.filled, h.fits)
 
 -- the same shelf in another room
-pub record Alike (r q : Shelf) (room room' : List ℕ) : Type 0 where
+pub record Alike (r q : Option Stock) (room room' : List ℕ) : Type 0 where
   pub same : r ≡ q
-  pub stand : (count used : ℕ) → r ≡ Made count used
-      → words_of room count ≡ words_of room' count
+  pub stand : (stock : Stock) → r ≡ Some stock
+      → words_of room stock.count ≡ words_of room' stock.count
 
 module _ {words : List Word} {room room' : List ℕ} where
-  pub shelved-unique : (r q : Shelf) → Shelved words r room → Shelved words q room'
+  pub shelved-unique : (r q : Option Stock) → Shelved words r room → Shelved words q room'
       → Alike r q room room'
   shelved-unique r q a b =
       let e = one r q a b in
       record {
         same = e;
-        stand = λ count used is. (a.made count used is).are ∙ sym (b.made count used (sym e ∙ is)).are;
+        stand = λ stock is. (a.made stock is).are ∙ sym (b.made stock (sym e ∙ is)).are;
       }
     where
-      one : (r q : Shelf) → Shelved words r room → Shelved words q room' → r ≡ q
-      one Full Full a b = refl
-      one Full (Made n m) a b = absurd (not-outgrown (b.made n m refl) (a.full refl))
-      one (Made n m) Full a b = absurd (not-outgrown (a.made n m refl) (b.full refl))
-      one (Made n m) (Made k l) a b =
-          let x = a.made n m refl in
-          let y = b.made k l refl in
-          ap₂ Made (held-count x ∙ sym (held-count y)) (x.filled ∙ sym y.filled)
+      one : (r q : Option Stock) → Shelved words r room → Shelved words q room' → r ≡ q
+      one None None a b = refl
+      one None (Some q) a b = absurd (not-outgrown (b.made q refl) (a.full refl))
+      one (Some r) None a b = absurd (not-outgrown (a.made r refl) (b.full refl))
+      one (Some r) (Some q) a b =
+          let x = a.made r refl in
+          let y = b.made q refl in
+          let counts = held-count x ∙ sym (held-count y) in
+          let bytes = x.filled ∙ sym y.filled in
+          λ i. Some (record { count = counts i; used = bytes i })
 
 -- `start`
-pub start-unique : {r q : Shelf} → Bare r → Bare q → r ≡ q
+pub start-unique : {r q : Option Stock} → Bare r → Bare q → r ≡ q
 start-unique a b = (shelved-unique _ _ (a []) (b [])).same
 
 -- `put`, and whatever puts words
-pub gathers-unique : {more : List Word} {room : List ℕ} {s : Shelf} → SomeShelved room s
-    → {room' room'' : List ℕ} {r q : Shelf}
+pub gathers-unique : {more : List Word} {room : List ℕ} {s : Option Stock} → SomeShelved room s
+    → {room' room'' : List ℕ} {r q : Option Stock}
     → Gathers more room s r room'
     → Gathers more room s q room''
     → Alike r q room' room''

@@ -1,13 +1,12 @@
 -- A shelf: words, each once and in rising byte order, in a room that the caller lends. Their bytes stand from its start
 -- on, one after the other as they came; behind the room for them stands where the word of each slot starts, in two
 -- bytes, and behind that which slot is read first, second, and so on.
-use Rattle.std.specs.Prelude.{◌≡◌, ◌⊎◌, List, [], ◌∷◌, ◌++◌, map, ℕ, ◌+◌, ◌*◌, ◌<◌, ◌≤◌, length, get_or, take}
+use Rattle.std.specs.Prelude.{◌≡◌, ◌⊎◌, List, [], ◌∷◌, ◌++◌, map, ℕ, ◌+◌, ◌*◌, ◌<◌, ◌≤◌, length, get_or, take, Option, Some, None}
 use Rattle.std.proofs.Math.Seq.{slice}
 use Rattle.words.specs.Lists.{◌among◌, up_to}
 use Rattle.words.specs.Words.{Word}
 use Rattle.words.specs.Order.{Less, Rises, arranged, rank}
-use Rattle.join_shelf.specs.declared.Shelf.{Shelf}
-use Rattle.join_shelf.specs.declared.Shelf.TheVariants.{Full, Made}
+use Rattle.join_shelf.specs.declared.Stock.{Stock}
 
 -- "rows over 256", and 4 bytes of each before its word with "the words together over 4,096": markers need less
 abbrev pub shelf_cap : ℕ
@@ -68,19 +67,19 @@ pub record Held (made : List Word) (room : List ℕ) (count used : ℕ) : Type 0
   pub last : 0 < count → start_of room count ≡ used
 
 -- what a shelf is, of words put on it one after the other: all are kept, or there is no room for all
-pub record Shelved (words : List Word) (r : Shelf) (room : List ℕ) : Type 0 where
-  pub made : (count used : ℕ) → r ≡ Made count used → Held words room count used
-  pub full : r ≡ Full → (shelf_cap < length (kept words)) ⊎ (shelf_room < total (kept words))
+pub record Shelved (words : List Word) (r : Option Stock) (room : List ℕ) : Type 0 where
+  pub made : (stock : Stock) → r ≡ Some stock → Held words room stock.count stock.used
+  pub full : r ≡ None → (shelf_cap < length (kept words)) ⊎ (shelf_room < total (kept words))
 
 -- nothing was put, whatever the room holds; something was put
-abbrev pub Bare : Shelf → Type 0
+abbrev pub Bare : Option Stock → Type 0
 Bare r = (room : List ℕ) → Shelved [] r room
 
-abbrev pub SomeShelved : List ℕ → Shelf → Type 0
+abbrev pub SomeShelved : List ℕ → Option Stock → Type 0
 SomeShelved room r = (made : List Word) × Shelved made r room
 
 -- these words were put after whatever was before
-abbrev pub Gathers : List Word → List ℕ → Shelf → Shelf → List ℕ → Type 0
+abbrev pub Gathers : List Word → List ℕ → Option Stock → Option Stock → List ℕ → Type 0
 Gathers more room s r room' =
     (made : List Word) → Shelved made s room → Shelved (made ++ more) r room'
 

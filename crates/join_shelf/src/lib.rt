@@ -2,7 +2,7 @@
 // that nobody has to join them first.
 #![tactic(auto)]
 
-ghost use Rattle.std.specs.Prelude.{◌≡◌, ◌∷◌, [], ◌++◌, ◌+◌, ◌*◌, ◌≤◌, ◌<◌, length};
+ghost use Rattle.std.specs.Prelude.{◌≡◌, ◌∷◌, [], ◌++◌, ◌+◌, ◌*◌, ◌≤◌, ◌<◌, length, Some};
 ghost use Rattle.words.specs.Lists.{Exact};
 ghost use Rattle.words.specs.Order.{side};
 ghost use Rattle.words.specs.Calls.{side_of};
@@ -10,9 +10,9 @@ ghost use Rattle.join_shelf.specs.Shelved.{start_of, word_at, Stands, Standing, 
 ghost use Rattle.join_shelf.specs.Shelved.{WordPlace};
 ghost use Rattle.join_shelf.specs.Shelved.{Stored};
 ghost use Rattle.join_shelf.specs.Shelved.{SameOrder};
-ghost use Rattle.join_shelf.specs.declared.Shelf.TheVariants.{Full, Made};
 
-use words::{Order, compare, copy, insert, wide};
+use std::cmp::Ordering;
+use words::{compare, copy, first_not, insert, load_two, wide};
 
 // The room: the bytes of all words, as they came; from `STARTS` on where the word of each slot starts, in two bytes;
 // from `ORDER` on which slot is read first, second, and so on.
@@ -24,41 +24,28 @@ const STARTS: usize = 5120;
 
 const ORDER: usize = 5634;
 
-// What stands on a shelf: so many words with so many bytes; or there was no room for one.
-#[derive(Clone, Copy)]
-pub enum Shelf {
-    Full,
-    Made { count: usize, used: usize },
+// What stands on a shelf: so many words with so many bytes together. Where there was no room for one, there is none.
+#[derive(Clone, Copy, PartialEq, Eq)]
+pub struct Stock {
+    pub count: usize,
+    pub used: usize,
 }
 
 // Nothing yet, whatever the lent room holds.
-pub fn start() -> Shelf
+pub fn start() -> Option<Stock>
     ensures { Bare result }
 {
-    Shelf::Made { count: 0, used: 0 }
-}
-
-// Whether there was no room for a word.
-pub fn full(shelf: Shelf) -> bool
-    ensures { Exact (shelf ≡ Full) result }
-{
-    match shelf {
-        Shelf::Full => true,
-        Shelf::Made { count: _, used: _ } => false,
-    }
+    Some(Stock { count: 0, used: 0 })
 }
 
 // Puts a word at its place, unless it is there.
-pub fn put(room: &mut [u8; SHELF], shelf: Shelf, head: &[u8], tail: &[u8]) -> Shelf
+pub fn put(room: &mut [u8; SHELF], shelf: Option<Stock>, head: &[u8], tail: &[u8]) -> Option<Stock>
     requires { SomeShelved room.old shelf }
     ensures { Gathers ((head.now ++ tail.now) ∷ [])
         room.old shelf
         result room.new }
 {
-    match shelf {
-        Shelf::Full => Shelf::Full,
-        Shelf::Made { count, used } => put_in(room, count, used, head, tail),
-    }
+    put_in(room, shelf?, head, tail)
 }
 
 // The word at a place, as a part of the lent room.
@@ -66,11 +53,8 @@ pub fn word<'a>(room: &'a [u8; SHELF], i: usize) -> &'a [u8]
     requires { Stands room.now i }
     ensures { result.now ≡ word_at room.now i }
 {
-    let all = &room[..];
-    let s = wide(all[ORDER + i]);
-    let from = start_of(all, s);
-    let to = start_of(all, s + 1);
-    &all[from..to]
+    let slot = wide(room[ORDER + i]);
+    &room[start_of(room, slot)..start_of(room, slot + 1)]
 }
 
 // Where the word of a slot starts.
@@ -78,8 +62,7 @@ fn start_of(room: &[u8], k: usize) -> usize
     requires { 5121 + 2 * k < length room.now }
     ensures { result ≡ start_of room.now k }
 {
-    let at = STARTS + 2 * k;
-    wide(room[at]) + 256 * wide(room[at + 1])
+    load_two(room, STARTS + 2 * k)
 }
 
 // How many words come before a word.
@@ -88,21 +71,11 @@ pub fn place(room: &[u8; SHELF], count: usize, head: &[u8], tail: &[u8]) -> usiz
     ensures { WordPlace room.now count
         (head.now ++ tail.now) result }
 {
-    let mut low: usize = 0;
-    let mut high = count;
-    while low < high {
-        let middle = low + (high - low) / 2;
-        match against(head, tail, word(room, middle)) {
-            Order::Before => high = middle,
-            Order::Same => return middle,
-            Order::After => low = middle + 1,
-        }
-    }
-    low
+    first_not(count, |i| against(head, tail, word(room, i)).is_gt())
 }
 
 // Where a word in two parts stands to another.
-fn against(head: &[u8], tail: &[u8], word: &[u8]) -> Order
+fn against(head: &[u8], tail: &[u8], word: &[u8]) -> Ordering
     ensures { side_of result ≡ side (head.now ++ tail.now) word.now }
 {
     let n = head.len();
@@ -110,9 +83,9 @@ fn against(head: &[u8], tail: &[u8], word: &[u8]) -> Order
         return compare(head, word);
     }
     match compare(head, &word[..n]) {
-        Order::Before => Order::Before,
-        Order::Same => compare(tail, &word[n..]),
-        Order::After => Order::After,
+        Ordering::Less => Ordering::Less,
+        Ordering::Equal => compare(tail, &word[n..]),
+        Ordering::Greater => Ordering::Greater,
     }
 }
 
@@ -122,43 +95,34 @@ fn stands(room: &[u8; SHELF], count: usize, at: usize, head: &[u8], tail: &[u8])
     ensures { Exact ((at < count) × (head.now ++ tail.now
         ≡ word_at room.now at)) result }
 {
-    if count <= at {
-        return false;
-    }
-    match against(head, tail, word(room, at)) {
-        Order::Before => false,
-        Order::Same => true,
-        Order::After => false,
-    }
+    at < count && against(head, tail, word(room, at)).is_eq()
 }
 
 // The same as `put`, on a shelf that is not full.
-fn put_in(room: &mut [u8; SHELF], count: usize, used: usize, head: &[u8], tail: &[u8]) -> Shelf
-    requires { SomeShelved room.old (Made count used) }
+fn put_in(room: &mut [u8; SHELF], stock: Stock, head: &[u8], tail: &[u8]) -> Option<Stock>
+    requires { SomeShelved room.old (Some stock) }
     ensures { Gathers ((head.now ++ tail.now) ∷ [])
-        room.old (Made count used)
+        room.old (Some stock)
         result room.new }
 {
+    let Stock { count, used } = stock;
     let at = place(room, count, head, tail);
     if stands(room, count, at, head, tail) {
-        return Shelf::Made { count, used };
+        return Some(stock);
     }
     if count == 256 {
-        return Shelf::Full;
+        return None;
     }
-    if ROOM - used < head.len() {
-        return Shelf::Full;
-    }
-    if ROOM - used - head.len() < tail.len() {
-        return Shelf::Full;
+    let left = ROOM - used;
+    if left < head.len() || left - head.len() < tail.len() {
+        return None;
     }
     let end = store(room, count, used, head, tail);
-    let all = &mut room[..];
-    insert(all, ORDER + count, ORDER + at, count as u8);
-    Shelf::Made {
+    insert(room, ORDER + count, ORDER + at, count as u8);
+    Some(Stock {
         count: count + 1,
         used: end,
-    }
+    })
 }
 
 // Lays the bytes of a word behind those in use, in the slot after those in use; gives where they end.
@@ -170,15 +134,14 @@ fn store(room: &mut [u8; SHELF], count: usize, used: usize, head: &[u8], tail: &
 {
     let middle = used + head.len();
     let end = middle + tail.len();
-    let edges = [
-        (used % 256) as u8,
-        (used / 256) as u8,
-        (end % 256) as u8,
-        (end / 256) as u8,
-    ];
-    let all = &mut room[..];
-    copy(all, used, head);
-    copy(all, middle, tail);
-    copy(all, STARTS + 2 * count, &edges);
+    let [start_low, start_high] = (used as u16).to_le_bytes();
+    let [end_low, end_high] = (end as u16).to_le_bytes();
+    copy(room, used, head);
+    copy(room, middle, tail);
+    copy(
+        room,
+        STARTS + 2 * count,
+        &[start_low, start_high, end_low, end_high],
+    );
     end
 }

@@ -15,6 +15,8 @@ use Rattle.session_meaning.specs.Numbers.{FirstAt, Heaviest}
 use Rattle.session_meaning.proofs.Encoded.{get_or-zeros}
 use Rattle.links.proofs.Weighed.{Sought, sought-start, sought-past, sought-all}
 use Rattle.session_meaning.proofs.Started.{same_or}
+use Rattle.std.specs.Prelude.{Option, Some, None, MatchOption}
+use Rattle.links.specs.Heads.{FoundAt}
 
 module _ (bytes : List ℕ) (small : Bytes bytes) where
   -- feet and seats say the level
@@ -127,13 +129,6 @@ module _ {bytes starts : List ℕ} (v : Levelled bytes starts) (foot : ℕ) wher
   pub seat-before : (k : ℕ) → k < link_count bytes → seat_at bytes k ≡ foot → k < start_of starts (level_of foot)
   seat-before k l e = subst (λ (m : ℕ). k < start_of starts m) (under-level k e) (v.before k l)
 
--- the most, at the start of the level
-pub sought-level : {bytes : List ℕ} {foot : ℕ} (starts : List ℕ) (s : ℕ) → s ≡ start_of starts (level_of foot)
-    → Sought bytes foot (start_of starts (level_of foot)) s 0
-sought-level {bytes} {foot} starts s e =
-    let t = start_of starts (level_of foot) in
-    subst (λ (k : ℕ). Sought bytes foot t k 0) (sym e) (sought-start bytes foot t)
-
 -- links without the foot are passed over
 sought-to : {bytes : List ℕ} {foot from n : ℕ} (d j t : ℕ) → j + d ≡ t → t ≤ link_count bytes
     → ((k : ℕ) → j ≤ k → k < t → foot_at bytes k ≡ foot → ⊥) → Sought bytes foot from j n → Sought bytes foot from t n
@@ -175,18 +170,22 @@ module _ {bytes starts : List ℕ} (v : Levelled bytes starts) (i : ℕ) (l : i 
   pub seat-low : {foot : ℕ} → foot ≡ seat_at bytes i → level_of foot < 34
   seat-low e = omega (arith, over e, v.graded.low i l)
 
-  -- a link with something below it is over level 0
-  pub over-bottom : (foot_at bytes i ≡ 0 → ⊥) → 0 < (link_at bytes i).level
-  over-bottom n = go (eq-zero-or-pos (link_at bytes i).level)
-    where
-      go : ((link_at bytes i).level ≡ 0) ⊎ (0 < (link_at bytes i).level) → 0 < (link_at bytes i).level
-      go (inl z) = let b = v.graded.bottom i l z in absurd (n (omega (arith, b.0, b.1)))
-      go (inr p) = p
-
--- a search finds what is there
-pub first_found : {at : ℕ → ℕ} {n number r : ℕ} → FirstAt at n number r → (j : ℕ) → j < n → at j ≡ number → r < n
-first_found {at} {n} {number} {r} f j l e = go (below_or r n)
-  where
-    go : (r < n) ⊎ (n ≤ r) → r < n
-    go (inl h) = h
-    go (inr h) = absurd (f.before j (omega arith) e)
+-- what a search over the places of a level says of all places
+pub found_in : {at : ℕ → ℕ} {n number a b : ℕ} (r : Option ℕ) → b ≤ n → ((k : ℕ) → k < n → at k ≡ number → a ≤ k)
+    → ((k : ℕ) → k < n → at k ≡ number → k < b)
+    → MatchOption r ((k : ℕ) → a ≤ k → k < b → at k ≡ number → ⊥)
+    (λ i. (a ≤ i) × (i < b) × (at i ≡ number) × ((k : ℕ) → a ≤ k → k < i → at k ≡ number → ⊥)) → FoundAt at n number r
+found_in None le from to h =
+    record {
+      within = omega arith;
+      before = λ k l e. h k (from k l e) (to k l e) e;
+      found = λ l. absurd (omega arith);
+    }
+found_in (Some i) le from to h = (
+  record {
+    within = omega arith;
+    before = λ k l e. h.3 k (from k (omega arith) e) l e;
+    found = λ l. h.2;
+  },
+  omega arith,
+)

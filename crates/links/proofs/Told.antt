@@ -1,19 +1,20 @@
 -- Each contract of `links` allows one answer, or one head left. Assumes nothing.
-use mathlib.Core.Path.{◌≡◌, refl, sym, ◌∙◌}
+use mathlib.Core.Path.{◌≡◌, refl, sym, ap, ◌∙◌}
 use mathlib.Core.Logic.{◌⊎◌, inl, inr}
 use mathlib.Core.List.{List}
 use Prim.Native.Nat.{ℕ, ◌+◌, ◌-◌, ◌/◌, ◌%◌, ◌<◌, ◌≤◌}
 use native.Mathlib.Omega.{arith}
 use lib.Seq.{ext_get_or}
+use Rattle.std.specs.Prelude.{Option, Some, None}
 use Rattle.words.proofs.Lists.{below_or}
 use Rattle.session_meaning.specs.Bytes.{link_start, length_start}
 use Rattle.session_meaning.specs.Numbers.{FirstAt}
 use Rattle.session_meaning.proofs.Held.{within}
-use Rattle.words.specs.declared.byte_order.Order.{Order}
-use Rattle.words.specs.declared.byte_order.Order.TheVariants.{Before, Same, After}
+use Rattle.std.specs.declared.cmp.Ordering.{Ordering}
+use Rattle.std.specs.declared.cmp.Ordering.TheVariants.{Less, Equal, Greater}
 use Rattle.words.specs.LittleEndian.{byte}
 use Rattle.links.specs.declared.Link.{Link}
-use Rattle.links.specs.Heads.{Read, Stands, Compared, Gapped}
+use Rattle.links.specs.Heads.{Read, Stands, Compared, Gapped, FoundAt}
 
 pub read-unique : {bytes : List ℕ} {k : ℕ} {l m : Link} → Read bytes k l → Read bytes k m → l ≡ m
 read-unique r s =
@@ -24,18 +25,18 @@ read-unique r s =
     let e = r.marker-below ∙ sym s.marker-below in
     λ i. record { level = a i; state = b i; marker = c i; state_below = d i; marker_below = e i }
 
-stands-unique : (r s : Order) (a b : ℕ) → Stands r a b → Stands s a b → r ≡ s
-stands-unique Before Before a b p q = refl
-stands-unique Before Same a b p q = absurd (omega arith)
-stands-unique Before After a b p q = absurd (omega arith)
-stands-unique Same Before a b p q = absurd (omega arith)
-stands-unique Same Same a b p q = refl
-stands-unique Same After a b p q = absurd (omega arith)
-stands-unique After Before a b p q = absurd (omega arith)
-stands-unique After Same a b p q = absurd (omega arith)
-stands-unique After After a b p q = refl
+stands-unique : (r s : Ordering) (a b : ℕ) → Stands r a b → Stands s a b → r ≡ s
+stands-unique Less Less a b p q = refl
+stands-unique Less Equal a b p q = absurd (omega arith)
+stands-unique Less Greater a b p q = absurd (omega arith)
+stands-unique Equal Less a b p q = absurd (omega arith)
+stands-unique Equal Equal a b p q = refl
+stands-unique Equal Greater a b p q = absurd (omega arith)
+stands-unique Greater Less a b p q = absurd (omega arith)
+stands-unique Greater Equal a b p q = absurd (omega arith)
+stands-unique Greater Greater a b p q = refl
 
-pub compared-unique : {bytes : List ℕ} {i : ℕ} {l : Link} {r s : Order} → Compared bytes i l r → Compared bytes i l s
+pub compared-unique : {bytes : List ℕ} {i : ℕ} {l : Link} {r s : Ordering} → Compared bytes i l r → Compared bytes i l s
     → r ≡ s
 compared-unique {r = r} {s = s} p q = stands-unique r s _ _ p.stands q.stands
 
@@ -46,6 +47,13 @@ first-unique {at} {n} {number} {r} {s} p q = go (below_or r s) (below_or s r)
     go (inl l) o = absurd (q.before r l (p.found (omega (arith, q.within))))
     go (inr g) (inl l) = absurd (p.before s l (q.found (omega (arith, p.within))))
     go (inr g) (inr h) = omega arith
+
+pub found-unique : (at : ℕ → ℕ) (n number : ℕ) (r s : Option ℕ) → FoundAt at n number r → FoundAt at n number s
+    → r ≡ s
+found-unique at n number None None p q = refl
+found-unique at n number None (Some i) p q = absurd (omega (arith, first-unique p q.0, q.1))
+found-unique at n number (Some i) None p q = absurd (omega (arith, first-unique p.0 q, p.1))
+found-unique at n number (Some i) (Some j) p q = ap Some (first-unique p.0 q.0)
 
 pub gapped-unique : {a b c : List ℕ} {n at : ℕ} → n < 64 → Gapped a n at b → Gapped a n at c → b ≡ c
 gapped-unique {a} {b} {c} {n} {at} lt p q = ext_get_or 0 b c (p.whole ∙ sym q.whole) (λ k l. same k)

@@ -126,13 +126,7 @@ heaviest-load {bytes} i small e f h =
     let m = h.is (stands_on (link_at bytes i)) (λ j l. rw f (stands-foot bytes small i j)) in
     rw (load_of, e, m)
 
--- the links weighed: at the start, of those from a place on, and one more
-pub weighed-none : (bytes loads : List ℕ) (i : ℕ) → link_count bytes ≤ i → Weighed bytes loads i
-weighed-none bytes loads i le = record { each = λ k l m. absurd (omega arith) }
-
-pub weighed-on : {bytes loads : List ℕ} {i j : ℕ} → Weighed bytes loads i → i ≤ j → Weighed bytes loads j
-weighed-on w le = record { each = λ k l m. w.each k (omega arith) m }
-
+-- one link more is weighed
 pub weighed-next : {bytes loads : List ℕ} {i : ℕ} (v : ℕ) → Weighed bytes loads (i + 1) → i < length loads
     → v ≡ load_at bytes i → Weighed bytes (set loads i v) i
 weighed-next {bytes} {loads} {i} v w lt e = record { each = λ k l m. go k m (below_or i k) l }

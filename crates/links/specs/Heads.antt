@@ -1,13 +1,13 @@
 -- A link as five bytes by value, and what is left where links and lengths are written. A head is what a session begins
 -- with (`session_meaning/specs/Bytes`): depth, count, 64 links of five bytes, 64 lengths of two.
-use Rattle.std.specs.Prelude.{◌≡◌, ◌⊎◌, cond, List, [], ◌∷◌, ℕ, ◌+◌, ◌*◌, ◌/◌, ◌%◌, ◌<◌, ◌≤◌, eqb, length, set}
+use Rattle.std.specs.Prelude.{◌≡◌, ◌⊎◌, cond, List, [], ◌∷◌, ℕ, ◌+◌, ◌*◌, ◌<◌, ◌≤◌, eqb, length, set, Option, Some, None}
 use Rattle.std.proofs.Math.Option.{some, none}
 use Rattle.meaning.specs.Trails as trails
 use Rattle.session_meaning.specs.Bytes.{link_start, length_start, pair}
-use Rattle.session_meaning.specs.Numbers.{head_size, key_at, links_end, lengths_end, Clear}
-use Rattle.words.specs.declared.byte_order.Order.{Order}
-use Rattle.words.specs.declared.byte_order.Order.TheVariants.{Before, Same, After}
-use Rattle.words.specs.LittleEndian.{byte}
+use Rattle.session_meaning.specs.Numbers.{head_size, key_at, links_end, lengths_end, Clear, FirstAt}
+use Rattle.std.specs.declared.cmp.Ordering.{Ordering}
+use Rattle.std.specs.declared.cmp.Ordering.TheVariants.{Less, Equal, Greater}
+use Rattle.words.specs.LittleEndian.{byte, with_two}
 use Rattle.links.specs.declared.Link.{Link}
 
 -- its bytes, in the order in which they stand; and their number
@@ -35,17 +35,17 @@ pub record Read (bytes : List ℕ) (k : ℕ) (l : Link) : Type 0 where
   pub marker-below : l.marker_below ≡ byte bytes (k + 4)
 
 -- where a number stands to another; and the link at a place to another link
-abbrev pub Stands : Order → ℕ → ℕ → Type 0
-Stands Before a b = a < b
-Stands Same a b = a ≡ b
-Stands After a b = b < a
+abbrev pub Stands : Ordering → ℕ → ℕ → Type 0
+Stands Less a b = a < b
+Stands Equal a b = a ≡ b
+Stands Greater a b = b < a
 
-pub record Compared (bytes : List ℕ) (i : ℕ) (l : Link) (r : Order) : Type 0 where
+pub record Compared (bytes : List ℕ) (i : ℕ) (l : Link) (r : Ordering) : Type 0 where
   pub stands : Stands r (key_at bytes i) (key_of l)
 
 -- a length was written, and nothing else; a link and a length were
 abbrev pub with_length : List ℕ → ℕ → ℕ → List ℕ
-with_length bytes i n = set (set bytes (length_start i) (n % 256)) (length_start i + 1) (n / 256)
+with_length bytes i n = with_two bytes (length_start i) n
 
 abbrev pub with_link : List ℕ → ℕ → Link → ℕ → List ℕ
 with_link bytes i l n =
@@ -69,3 +69,8 @@ pub record Gapped (bytes : List ℕ) (n at : ℕ) (bytes' : List ℕ) : Type 0 w
 pub record RestClear (bytes : List ℕ) : Type 0 where
   pub links : Clear bytes (links_end bytes) (length_start 0)
   pub lengths : Clear bytes (lengths_end bytes) head_size
+
+-- of the first `n` places the first at which there is a number, if it is at one
+abbrev pub FoundAt : (ℕ → ℕ) → ℕ → ℕ → Option ℕ → Type 0
+FoundAt at n number (Some r) = FirstAt at n number r × (r < n)
+FoundAt at n number None = FirstAt at n number n

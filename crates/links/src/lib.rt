@@ -15,7 +15,8 @@ ghost use Rattle.session_meaning.specs.Bytes.{link_start, link_count, length_at,
 ghost use Rattle.session_meaning.specs.Numbers.{head_size, pairs, keys, seat_at, foot_at, key_at, Clear};
 ghost use Rattle.links.specs.Heads.{key_of, Read, Compared, RestClear};
 
-use words::{Order, load_two, wide, zeros};
+use std::cmp::Ordering;
+use words::{load_two, wide, zeros};
 pub use writing::{add_start, insert_gap, put, set_head, set_length};
 
 // Where links and lengths start, and where they end.
@@ -144,19 +145,11 @@ pub fn read(bytes: &[u8], i: usize) -> Link
 }
 
 // Where the link at a place stands to another.
-pub fn compare(bytes: &[u8], i: usize, link: Link) -> Order
+pub fn compare(bytes: &[u8], i: usize, link: Link) -> Ordering
     requires { (head_size ≤ length bytes.now) × (i < 64) }
     ensures { Compared bytes.now i link result }
 {
-    let a = key(bytes, i);
-    let b = key_of(link);
-    if a < b {
-        return Order::Before;
-    }
-    if b < a {
-        return Order::After;
-    }
-    Order::Same
+    key(bytes, i).cmp(&key_of(link))
 }
 
 // Whether a part of the bytes is 0.
@@ -173,8 +166,5 @@ pub fn rest_blank(bytes: &[u8]) -> bool
     ensures { Exact (RestClear bytes.now) result }
 {
     let n = count(bytes);
-    if !blank(bytes, LINKS + 5 * n, LENGTHS) {
-        return false;
-    }
-    blank(bytes, LENGTHS + 2 * n, HEAD)
+    blank(bytes, LINKS + 5 * n, LENGTHS) && blank(bytes, LENGTHS + 2 * n, HEAD)
 }

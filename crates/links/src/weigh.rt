@@ -4,32 +4,21 @@ ghost use Rattle.session_meaning.specs.Soundly.{longest_of};
 ghost use Rattle.session_meaning.specs.Bytes.{link_count};
 ghost use Rattle.session_meaning.specs.Numbers.{start_of, level_of, Levelled, Weighable, weights, Weighed, Heaviest};
 
-use crate::levels::{LEVELS, PAIRS, start};
+use crate::levels::{LEVELS, PAIRS, part};
 use crate::{count, foot, long, seat};
-use words::larger;
 
-// A load, of 64 pieces at most, which has room in 16 bits, as a number.
-fn load(bits: u16) -> usize
-    ensures { result ≡ bits }
-{
-    bits as usize
-}
-
-// The most of the loads of the links with this foot, which are of one level; 0 where there is none.
+// The most of the loads of the links with this foot, which are of one level; 0 where there is none. A load, of 64 pieces
+// at most, has room in 16 bits.
 fn most_on(bytes: &[u8], starts: &[u8; LEVELS], loads: &[u16; 64], below: usize) -> usize
     requires levelled { Levelled bytes.now starts.now × (level_of below < 34) }
     requires weighed { Weighed bytes.now loads.now (start_of starts.now (level_of below)) }
     ensures { Heaviest bytes.now below (start_of starts.now (level_of below)) result }
 {
-    let level = below / PAIRS;
-    let end = start(starts, level + 1);
     let mut most = 0;
-    let mut j = start(starts, level);
-    while j < end {
+    for j in part(starts, below / PAIRS) {
         if foot(bytes, j) == below {
-            most = larger(most, load(loads[j]));
+            most = most.max(usize::from(loads[j]));
         }
-        j += 1;
     }
     most
 }
@@ -42,8 +31,7 @@ fn weigh(bytes: &[u8], starts: &[u8; LEVELS], loads: &mut [u16; 64], i: usize)
 {
     let above = most_on(bytes, starts, loads, seat(bytes, i));
     let own = long(bytes, i);
-    let all = &mut loads[..];
-    all[i] = (own + above) as u16;
+    loads[i] = (own + above) as u16;
 }
 
 // How long the longest waiting output is.
@@ -52,9 +40,7 @@ pub fn longest(bytes: &[u8], starts: &[u8; LEVELS]) -> usize
     ensures { result ≡ longest_of (weights bytes.now) }
 {
     let mut loads = [0u16; 64];
-    let mut i = count(bytes);
-    while 0 < i {
-        i -= 1;
+    for i in (0..count(bytes)).rev() {
         weigh(bytes, starts, &mut loads, i);
     }
     most_on(bytes, starts, &loads, 0)

@@ -4,7 +4,8 @@ ghost use Rattle.session_meaning.specs.Bytes.{link_start};
 ghost use Rattle.session_meaning.specs.Numbers.{head_size, pairs};
 ghost use Rattle.links.specs.Heads.{with_length, with_link, Gapped};
 
-use crate::{LENGTHS, LINKS, Link, long, read};
+use crate::{LENGTHS, LINKS, Link};
+use words::store_two;
 
 // The depth, and how many links there are.
 pub fn set_head(bytes: &mut [u8], depth: usize, count: usize)
@@ -29,9 +30,7 @@ pub fn set_length(bytes: &mut [u8], i: usize, n: usize)
     requires { (head_size ≤ length bytes.old) × (i < 64) × (n < pairs) }
     ensures { bytes.new ≡ with_length bytes.old i n }
 {
-    let at = LENGTHS + 2 * i;
-    bytes[at] = (n % 256) as u8;
-    bytes[at + 1] = (n / 256) as u8;
+    store_two(bytes, LENGTHS + 2 * i, n);
 }
 
 // A link, and how long its piece is.
@@ -53,19 +52,6 @@ pub fn insert_gap(bytes: &mut [u8], n: usize, at: usize)
     requires { (head_size ≤ length bytes.old) × (at ≤ n) × (n < 64) }
     ensures { Gapped bytes.old n at bytes.new }
 {
-    let mut i = n;
-    while at < i {
-        i -= 1;
-        move_up(bytes, i);
-    }
-}
-
-// One link and its length, one place up.
-fn move_up(bytes: &mut [u8], i: usize)
-    requires { (head_size ≤ length bytes.old) × (i + 1 < 64) }
-    ensures { Gapped bytes.old (i + 1) i bytes.new }
-{
-    let moved = read(bytes, i);
-    let n = long(bytes, i);
-    put(bytes, i + 1, moved, n);
+    bytes.copy_within(LINKS + 5 * at..LINKS + 5 * n, LINKS + 5 * (at + 1));
+    bytes.copy_within(LENGTHS + 2 * at..LENGTHS + 2 * n, LENGTHS + 2 * (at + 1));
 }

@@ -1,16 +1,13 @@
-// The table of numbers, once: document 01's names, the number of each, and what a call answers.
+// The table of numbers, once: document 01's names, the number of each, and the number of what a call answers.
 
 #![tactic(auto)]
 
 ghost use Rattle.std.specs.Prelude.{◌≡◌};
-ghost use Rattle.words.specs.Lists.{Exact};
-ghost use Rattle.numbers.specs.Numbers.{number_of};
-ghost use Rattle.numbers.specs.declared.Number.TheVariants.{Taken};
+ghost use Rattle.numbers.specs.Numbers.{refusal_number, number_of};
 
-// The names of document 01's table of numbers, in its order.
-#[derive(Clone, Copy)]
-pub enum Number {
-    Taken,
+// Why a call was not carried out: the names of document 01's table of numbers, in its order, but for 0, Taken.
+#[derive(Clone, Copy, Debug, PartialEq, Eq)]
+pub enum Refusal {
     BadTable,
     BadSession,
     UnknownSymbol,
@@ -28,58 +25,36 @@ pub enum Number {
     TooLarge,
 }
 
-// What a call answers: its number, and how many bytes it wrote; of begin, how many starting states there are.
-#[derive(Clone, Copy)]
-pub struct Answer {
-    pub number: Number,
-    pub count: usize,
-}
+impl From<Refusal> for u32 {
+    ghost from_gives = { λ refusal number. number ≡ refusal_number refusal };
 
-// The number of a name.
-pub fn number_of(number: Number) -> u32
-    ensures { result ≡ number_of number }
-{
-    match number {
-        Number::Taken => 0,
-        Number::BadTable => 1,
-        Number::BadSession => 2,
-        Number::UnknownSymbol => 3,
-        Number::Unopened => 4,
-        Number::TooDeep => 5,
-        Number::NoRun => 6,
-        Number::Crowded => 7,
-        Number::Conflict => 8,
-        Number::Backlog => 9,
-        Number::NoRoom => 10,
-        Number::Unclosed => 11,
-        Number::NotFinal => 12,
-        Number::Ambiguous => 13,
-        Number::NotNested => 14,
-        Number::TooLarge => 15,
+    fn from(refusal: Refusal) -> u32 {
+        match refusal {
+            Refusal::BadTable => 1,
+            Refusal::BadSession => 2,
+            Refusal::UnknownSymbol => 3,
+            Refusal::Unopened => 4,
+            Refusal::TooDeep => 5,
+            Refusal::NoRun => 6,
+            Refusal::Crowded => 7,
+            Refusal::Conflict => 8,
+            Refusal::Backlog => 9,
+            Refusal::NoRoom => 10,
+            Refusal::Unclosed => 11,
+            Refusal::NotFinal => 12,
+            Refusal::Ambiguous => 13,
+            Refusal::NotNested => 14,
+            Refusal::TooLarge => 15,
+        }
     }
 }
 
-// The answer of a call that was carried out.
-pub fn taken(count: usize) -> Answer
-    ensures { (result.number ≡ Taken) × (result.count ≡ count) }
+// The number of an answer: 0 where the call was carried out, else that of its refusal.
+pub fn number_of<T>(answer: &Result<T, Refusal>) -> u32
+    ensures { result ≡ number_of answer.now }
 {
-    Answer {
-        number: Number::Taken,
-        count,
+    match answer {
+        Ok(_) => 0,
+        Err(refusal) => u32::from(*refusal),
     }
-}
-
-// The answer of a call that was not: "a refusal gives byte count 0".
-pub fn refused(number: Number) -> Answer
-    ensures { (result.number ≡ number) × (result.count ≡ 0) }
-{
-    Answer { number, count: 0 }
-}
-
-// Whether a call was carried out.
-pub fn is_taken(answer: Answer) -> bool
-    ensures { Exact (number_of answer.number ≡ 0) result }
-{
-    let number = answer.number;
-    number_of(number) == 0
 }

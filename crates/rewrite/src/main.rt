@@ -3,12 +3,13 @@
 // nothing more is printed: the end of the input alone is the end of a message.
 #![tactic(auto)]
 
-ghost use Rattle.std.specs.Prelude.{◌+◌, ◌^◌, ◌≤◌, ◌<◌, length};
+ghost use Rattle.std.specs.Prelude.{◌+◌, ◌^◌, ◌≤◌, ◌<◌, length, IfSome};
+ghost use Rattle.rewrite_lines.specs.Calls.{next_of};
 
-use numbers::is_taken;
-use rewrite_lines::{Tried, put_end, put_no_table, put_symbol};
+use rewrite_lines::{put_end, put_no_table, put_symbol};
 use session_bytes::SIZE;
 use std::io::Read;
+use std::ops::ControlFlow;
 use step::WORK;
 
 // No good table is longer: 28 bytes of head and contents, 256 of classes, 16 of sets, 2,048 of rows, 4,096 of words.
@@ -25,237 +26,175 @@ const TEXT: usize = 134400;
 // A proved loop has to end, and nothing says that the input does: so it ends at a place that no message comes to.
 const MOST: u64 = 0x8000_0000_0000_0000;
 
+// A message: its table and session, and the rooms lent for it.
+#[derive(Drop)]
+struct Message<'a> {
+    file: &'a [u8],
+    session: [u8; SIZE],
+    out: [u8; OUT],
+    work: [u8; WORK],
+    text: [u8; TEXT],
+}
+
 fn main(rt: HostRuntime) {
     let mut input = rt.stdin();
     let mut head = [0u8; 2];
-    let got = fill(&rt, &mut input, &mut head[..]);
-    if got.failed {
+    let Some(count) = fill(&rt, &mut input, &mut head) else {
         return;
-    }
-    if got.count < 2 {
-        no_table(&rt);
-        return;
-    }
-    let length = words::load_two(&head[..], 0);
-    if LARGEST < length {
+    };
+    let length = words::load_two(&head, 0);
+    if count < 2 || LARGEST < length {
         no_table(&rt);
         return;
     }
     let mut file = [0u8; LARGEST];
-    on_length(&rt, &mut input, &mut file[..], length);
+    on_length(&rt, &mut input, &mut file[..length]);
 }
 
-// Reads a table of that many bytes.
-fn on_length(rt: &(impl Print + Eprint), input: &mut impl Read, file: &mut [u8], long: usize)
-    requires { long ≤ length file.old }
-{
-    let got = fill(rt, input, &mut file[..long]);
-    if got.failed {
+// Reads a table as long as `file`.
+fn on_length(rt: &(impl Print + Eprint), input: &mut impl Read, file: &mut [u8]) {
+    let Some(count) = fill(rt, input, file) else {
         return;
-    }
-    if got.count < long {
+    };
+    if count < file.len() {
         no_table(rt);
         return;
     }
-    on_table(rt, input, &file[..long]);
+    on_table(rt, input, file);
 }
 
-// How many bytes a read gave, 0 at the end of the input, and whether it failed.
-#[derive(Clone, Copy)]
-struct Got {
-    failed: bool,
-    count: usize,
-}
-
-// One read, which waits only where nothing has come.
-fn read_some(rt: &impl Eprint, input: &mut impl Read, buf: &mut [u8]) -> Got
-    ensures { result.count ≤ length buf.old }
+// One read, which waits only where nothing has come: how many bytes came, 0 at the end of the input. None where it
+// failed, which standard error is told.
+fn read_some(rt: &impl Eprint, input: &mut impl Read, buf: &mut [u8]) -> Option<usize>
+    ensures { IfSome result (λ n. n ≤ length buf.old) }
 {
     match input.read(buf) {
-        Ok(count) => Got {
-            failed: false,
-            count,
-        },
+        Ok(count) => Some(count),
         Err(_) => {
             let _ = rt.eprintln("rewrite: reading failed");
-            Got {
-                failed: true,
-                count: 0,
-            }
+            None
         }
     }
 }
 
-// Reads until `buf` is full or the input ends.
-fn fill(rt: &impl Eprint, input: &mut impl Read, buf: &mut [u8]) -> Got
-    ensures { result.count ≤ length buf.old }
+// Reads until `buf` is full or the input ends. None where a read failed.
+fn fill(rt: &impl Eprint, input: &mut impl Read, buf: &mut [u8]) -> Option<usize>
+    ensures { IfSome result (λ n. n ≤ length buf.old) }
 {
     let mut done: usize = 0;
     while done < buf.len() {
-        let got = read_some(rt, input, &mut buf[done..]);
-        if got.count == 0 {
-            return Got {
-                failed: got.failed,
-                count: done,
-            };
+        let count = read_some(rt, input, &mut buf[done..])?;
+        if count == 0 {
+            break;
         }
-        done += got.count;
+        done += count;
     }
-    Got {
-        failed: false,
-        count: done,
-    }
+    Some(done)
 }
 
 fn no_table(rt: &(impl Print + Eprint)) {
     let mut text = [0u8; 8];
-    let end = put_no_table(&mut text[..], 0);
+    let end = put_no_table(&mut text, 0);
     say(rt, &text[..end]);
 }
 
-// Writes text, and answers whether it could.
-fn say(rt: &(impl Print + Eprint), text: &[u8]) -> bool {
-    let written = rt.write_all(text).is_ok();
-    if !written {
+// Writes text. None where that failed, which standard error is told.
+fn say(rt: &(impl Print + Eprint), text: &[u8]) -> Option<()> {
+    if rt.write_all(text).is_err() {
         let _ = rt.eprintln("rewrite: writing failed");
+        return None;
     }
-    written
+    Some(())
 }
 
 fn on_table(rt: &(impl Print + Eprint), input: &mut impl Read, file: &[u8]) {
-    let mut session = [0u8; SIZE];
-    if !is_taken(session::begin(file, &mut session)) {
+    let mut message = Message {
+        file,
+        session: [0; SIZE],
+        out: [0; OUT],
+        work: [0; WORK],
+        text: [0; TEXT],
+    };
+    if session::begin(file, &mut message.session).is_err() {
         no_table(rt);
         return;
     }
-    on_session(rt, input, file, &mut session);
-}
-
-fn on_session(
-    rt: &(impl Print + Eprint),
-    input: &mut impl Read,
-    file: &[u8],
-    session: &mut [u8; SIZE],
-) {
-    let mut out = [0u8; OUT];
-    let mut work = [0u8; WORK];
-    let mut text = [0u8; TEXT];
     let mut place: u64 = 0;
     while place < MOST {
-        let taken = on_input(
-            rt, input, file, session, place, &mut out, &mut work, &mut text,
-        );
-        if taken == 0 {
+        let Some(taken) = on_input(rt, input, &mut message, place) else {
             return;
-        }
+        };
         place += taken as u64;
     }
 }
 
-// Reads symbols, and writes their lines before it returns. Answers how many were taken, 0 where the message is over.
+// Reads symbols, and writes their lines before it returns. Answers how many were taken, none where the message is over.
 fn on_input(
     rt: &(impl Print + Eprint),
     input: &mut impl Read,
-    file: &[u8],
-    session: &mut [u8; SIZE],
+    message: &mut Message,
     place: u64,
-    out: &mut [u8; OUT],
-    work: &mut [u8; WORK],
-    text: &mut [u8; TEXT],
-) -> usize
+) -> Option<usize>
     requires { place + 65 < 2 ^ 64 }
-    ensures { result ≤ 64 }
+    ensures { IfSome result (λ n. (0 < n) × (n ≤ 64)) }
 {
     let mut block = [0u8; BLOCK];
-    let got = read_some(rt, input, &mut block[..]);
-    let n = got.count;
+    let n = read_some(rt, input, &mut block)?;
     if n == 0 {
-        if !got.failed {
-            on_end(rt, file, session, out, text);
-        }
-        return 0;
+        on_end(rt, message);
+        return None;
     }
-    on_symbols(rt, file, session, &block[..n], place, out, work, text)
+    on_symbols(rt, message, &block[..n], place)?;
+    Some(n)
 }
 
-// The same of symbols that were read.
+// Writes the lines of symbols that were read. None where the message is over.
 fn on_symbols(
     rt: &(impl Print + Eprint),
-    file: &[u8],
-    session: &mut [u8; SIZE],
+    message: &mut Message,
     symbols: &[u8],
     place: u64,
-    out: &mut [u8; OUT],
-    work: &mut [u8; WORK],
-    text: &mut [u8; TEXT],
-) -> usize
+) -> Option<()>
     requires { (length symbols.now ≤ 64) × (place + 65 < 2 ^ 64) }
-    ensures { result ≤ 64 }
 {
-    let tried = put_symbols(file, session, symbols, place, out, work, text);
-    let end = tried.next;
-    let all = &text[..];
-    if !say(rt, &all[..end]) {
-        return 0;
+    match put_symbols(message, symbols, place) {
+        ControlFlow::Continue(end) => say(rt, &message.text[..end]),
+        ControlFlow::Break(end) => {
+            say(rt, &message.text[..end]);
+            None
+        }
     }
-    if !tried.taken {
-        return 0;
-    }
-    symbols.len()
 }
 
-// Their lines, up to the first that is refused.
-fn put_symbols(
-    file: &[u8],
-    session: &mut [u8; SIZE],
-    symbols: &[u8],
-    place: u64,
-    out: &mut [u8; OUT],
-    work: &mut [u8; WORK],
-    text: &mut [u8; TEXT],
-) -> Tried
+// Puts their lines, up to the first that is refused. Answers the place after them.
+fn put_symbols(message: &mut Message, symbols: &[u8], place: u64) -> ControlFlow<usize, usize>
     requires { (length symbols.now ≤ 64) × (place + 65 < 2 ^ 64) }
-    ensures { result.next ≤ 134400 }
+    ensures { next_of result ≤ 134400 }
 {
-    let lent = &mut out[..];
-    let all = &mut text[..];
-    let mut at: usize = 0;
-    let mut i: usize = 0;
-    while i < symbols.len() {
-        let tried = put_symbol(
-            file,
-            session,
-            symbols[i],
-            lent,
-            work,
+    let mut at = 0;
+    for (i, symbol) in symbols.iter().enumerate() {
+        at = put_symbol(
+            message.file,
+            &mut message.session,
+            *symbol,
+            &mut message.out,
+            &mut message.work,
             place + i as u64 + 1,
-            all,
+            &mut message.text,
             at,
-        );
-        at = tried.next;
-        if !tried.taken {
-            return Tried {
-                taken: false,
-                next: at,
-            };
-        }
-        i += 1;
+        )?;
     }
-    Tried {
-        taken: true,
-        next: at,
-    }
+    ControlFlow::Continue(at)
 }
 
 // The end of the message.
-fn on_end(
-    rt: &(impl Print + Eprint),
-    file: &[u8],
-    session: &[u8; SIZE],
-    out: &mut [u8; OUT],
-    text: &mut [u8; TEXT],
-) {
-    let end = put_end(file, session, &mut out[..], &mut text[..], 0);
-    let all = &text[..];
-    say(rt, &all[..end]);
+fn on_end(rt: &(impl Print + Eprint), message: &mut Message) {
+    let end = put_end(
+        message.file,
+        &message.session,
+        &mut message.out,
+        &mut message.text,
+        0,
+    );
+    say(rt, &message.text[..end]);
 }

@@ -87,11 +87,7 @@ hex-next w i lt = rw (add-one, take-suc w i 0) (hex-more (take i w) (get_or w i 
 pub hex-first : (w : Word) (i : ℕ) → i ≤ length w → length (hex (take i w)) ≡ 2 * i
 hex-first w i le = hex-long (take i w) ∙ ap (λ (n : ℕ). 2 * n) (length-take-le i w le)
 
--- a dash exactly where there are none
+-- a dash where there are none
 pub no_bytes : (w : Word) → length w ≡ 0 → hex_or_dash w ≡ 45 ∷ []
 no_bytes [] e = refl
 no_bytes (b ∷ w) e = absurd (omega arith)
-
-pub hex-or-dash : (w : Word) → (length w ≡ 0 → ⊥) → hex_or_dash w ≡ hex w
-hex-or-dash [] some = absurd (some refl)
-hex-or-dash (b ∷ w) some = refl

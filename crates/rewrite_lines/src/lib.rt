@@ -5,5 +5,5 @@
 mod telling;
 mod text;
 
-pub use telling::{Tried, put_end, put_symbol};
+pub use telling::{put_end, put_symbol};
 pub use text::put_no_table;

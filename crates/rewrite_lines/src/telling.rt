@@ -5,16 +5,10 @@ ghost use Rattle.rewrite_lines.specs.Calls.{Told, EndTold};
 use crate::text::{put_ending, put_line};
 use numbers::number_of;
 use session_bytes::SIZE;
+use std::ops::ControlFlow;
 use step::WORK;
 
-// Whether a symbol was taken, and the place after its line.
-#[derive(Clone, Copy)]
-pub struct Tried {
-    pub taken: bool,
-    pub next: usize,
-}
-
-// Gives a symbol to `step`, and puts its line.
+// Gives a symbol to `step`, and puts its line. Answers the place after it, and goes on where the symbol was taken.
 pub fn put_symbol(
     file: &[u8],
     session: &mut [u8; SIZE],
@@ -24,20 +18,19 @@ pub fn put_symbol(
     place: u64,
     text: &mut [u8],
     at: usize,
-) -> Tried
+) -> ControlFlow<usize, usize>
     requires { at + 2 * length out.old + 52 ≤ length text.old }
     ensures { Told file.now session.old symbol out.old place text.old at result
         session.new out.new text.new }
 {
     let answer = step::step_in(file, session, symbol, out, work);
-    let name = answer.number;
-    let number = number_of(name);
-    let count = answer.count;
-    let depth = session_bytes::depth(session);
-    let next = put_line(text, at, place, symbol, number, depth, &out[..count]);
-    Tried {
-        taken: number == 0,
-        next,
+    let number = number_of(&answer);
+    let depth = links::depth(session);
+    let sent = &out[..answer.unwrap_or(0)];
+    let next = put_line(text, at, place, symbol, number, depth, sent);
+    match answer {
+        Ok(_) => ControlFlow::Continue(next),
+        Err(_) => ControlFlow::Break(next),
     }
 }
 
@@ -54,8 +47,5 @@ pub fn put_end(
         out.new text.new }
 {
     let answer = finish::finish(file, session, out);
-    let name = answer.number;
-    let number = number_of(name);
-    let count = answer.count;
-    put_ending(text, at, number, &out[..count])
+    put_ending(text, at, number_of(&answer), &out[..answer.unwrap_or(0)])
 }

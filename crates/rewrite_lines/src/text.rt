@@ -38,10 +38,8 @@ fn put_pairs(text: &mut [u8], at: usize, bytes: &[u8]) -> usize
     ensures { Appended text.old at (hex bytes.now) result text.new }
 {
     let mut end = at;
-    let mut i = 0;
-    while i < bytes.len() {
-        end = put_pair(text, end, bytes[i]);
-        i += 1;
+    for byte in bytes {
+        end = put_pair(text, end, *byte);
     }
     end
 }
@@ -51,7 +49,7 @@ fn put_hex(text: &mut [u8], at: usize, bytes: &[u8]) -> usize
     requires { Room text.old at (hex_or_dash bytes.now) }
     ensures { Appended text.old at (hex_or_dash bytes.now) result text.new }
 {
-    if bytes.len() == 0 {
+    if bytes.is_empty() {
         return put_byte(text, at, b'-');
     }
     put_pairs(text, at, bytes)
@@ -89,8 +87,8 @@ pub fn put_line(
     ensures { Appended text.old at (line place symbol number depth bytes.now) result text.new }
 {
     let second = put_field(text, at, place);
-    let third = put_field(text, second, symbol as u64);
-    let fourth = put_field(text, third, number as u64);
+    let third = put_field(text, second, u64::from(symbol));
+    let fourth = put_field(text, third, u64::from(number));
     let fifth = put_field(text, fourth, depth as u64);
     put_last(text, fifth, bytes)
 }
@@ -101,7 +99,7 @@ pub fn put_ending(text: &mut [u8], at: usize, number: u32, bytes: &[u8]) -> usiz
     ensures { Appended text.old at (ending number bytes.now) result text.new }
 {
     let second = put_bytes(text, at, b"end ");
-    let third = put_field(text, second, number as u64);
+    let third = put_field(text, second, u64::from(number));
     put_last(text, third, bytes)
 }
 

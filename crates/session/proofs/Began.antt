@@ -14,8 +14,8 @@ use borrow.Author.Tests.{eqb-true, eqb-false}
 use Rattle.words.specs.Lists.{◌among◌}
 use Rattle.words.specs.Words.{Word, Bytes}
 use Rattle.words.proofs.Lists.{bytes-nil, bytes-cons}
-use Rattle.numbers.specs.declared.Answer.{Answer}
-use Rattle.numbers.specs.declared.Number.TheVariants.{Taken}
+use Rattle.std.specs.Prelude.{Result, Ok}
+use Rattle.numbers.specs.declared.Refusal.{Refusal}
 use Rattle.numbers.proofs.Told.{answer-same}
 use Rattle.meaning.specs.Table.{Table}
 use Rattle.meaning.specs.Trails.{Trail}
@@ -24,7 +24,6 @@ use Rattle.meaning.specs.Answers.{links_cap, Moment, opened}
 use Rattle.meaning.proofs.Living.{Reaches, living-exact, begun-count as living-count}
 use Rattle.table.specs.File.{table_of}
 use Rattle.table.specs.Good.{first_edition, GoodFile}
-use Rattle.table.specs.Calls.{Judged}
 use Rattle.table.proofs.Told.{judged-good, judged-faulty, judged-unique}
 use Rattle.table.proofs.Stands.{starting-of}
 use Rattle.session_meaning.specs.Sessions.{Entry, Sound, trails, stands, starts, started, beginning}
@@ -78,9 +77,9 @@ module _ (file : List ℕ) (good : GoodFile first_edition file) where
   beginning-is : stands (session_of (bytes_of (beginning T))) ≡ opened T
   beginning-is = ap stands decoded-beginning ∙ beginning-stands T
 
-  begins-taken : {n : ℕ} {l session session' : List ℕ} → l ≡ T.starting → session' ≡ bytes_of (started l)
-      → n ≡ length l → BeginsSession file session 0 n session'
-  begins-taken {session' = session'} e f m =
+  pub begun-taken : {n : ℕ} {l session session' : List ℕ} → l ≡ T.starting → session' ≡ bytes_of (started l)
+      → n ≡ length l → Begun file session (Ok n) session'
+  begun-taken {session' = session'} e f m =
       let is : session' ≡ bytes_of (beginning T) = f ∙ ap (λ (l : List ℕ). bytes_of (started l)) e in
       record {
         judged = judged-good good;
@@ -90,23 +89,6 @@ module _ (file : List ℕ) (good : GoodFile first_edition file) where
         stands = λ z. ap (λ (B : List ℕ). stands (session_of B)) is ∙ beginning-is;
         kept = λ z. absurd (omega arith);
       }
-
-  pub begun-taken : {r : Answer} {n : ℕ} {l session session' : List ℕ} → (r.number ≡ Taken) × (r.count ≡ n)
-      → l ≡ T.starting → session' ≡ bytes_of (started l) → n ≡ length l → Begun file session r session'
-  begun-taken a e f m = rw (a.0, a.1) (begins-taken e f m)
-
--- what `check` refuses, begin refuses with the same answer
-pub begins-bad : {file session : List ℕ} {number states : ℕ} → Judged file number → states ≡ 0 → (number ≡ 0 → ⊥)
-    → BeginsSession file session number states session
-begins-bad j e f =
-    record {
-      judged = j;
-      counted = λ z. absurd (f z);
-      none = λ z. e;
-      sound = λ z. absurd (f z);
-      stands = λ z. absurd (f z);
-      kept = λ z. refl;
-    }
 
 -- two numbers, counts and sessions that meet the promise on one file and session are the same; so are two answers
 pub begins-unique : {file session : List ℕ} {m n s t : ℕ} {x y : List ℕ} → BeginsSession file session m s x
@@ -130,11 +112,11 @@ begins-unique {file} {session} {m} {n} {s} {t} {x} {y} a b = go (eqb m 0) refl
         let one' = sym same ∙ one in
         (same, a.none one ∙ sym (b.none one'), a.kept one ∙ sym (b.kept one'))
 
-pub begun-unique : (file session : List ℕ) (r q : Answer) (session' session'' : List ℕ)
+pub begun-unique : (file session : List ℕ) (r q : Result ℕ Refusal) (session' session'' : List ℕ)
     → Begun file session r session' → Begun file session q session'' → (r ≡ q) × (session' ≡ session'')
 begun-unique file session r q session' session'' a b =
     let u = begins-unique a b in
-    (answer-same u.0 u.1, u.2)
+    (answer-same r q u.0 u.1, u.2)
 
 -- begin reports at most 64 starting states
 pub begun-few : {file session session' : List ℕ} {number states : ℕ} → BeginsSession file session number states session'

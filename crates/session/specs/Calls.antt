@@ -1,7 +1,7 @@
 -- What `begin` answers and leaves.
-use Rattle.std.specs.Prelude.{◌≡◌, List, ℕ}
-use Rattle.numbers.specs.Numbers.{number_of}
-use Rattle.numbers.specs.declared.Answer.{Answer}
+use Rattle.std.specs.Prelude.{◌≡◌, List, ℕ, Result, Option, Some, None}
+use Rattle.numbers.specs.Numbers.{number_of, count_of}
+use Rattle.numbers.specs.declared.Refusal.{Refusal}
 use Rattle.meaning.specs.Answers.{opened, starting_states}
 use Rattle.table.specs.File.{table_of}
 use Rattle.table.specs.Calls.{Judged}
@@ -18,5 +18,10 @@ pub record BeginsSession (file session : List ℕ) (number states : ℕ) (sessio
   pub kept : number ≡ 1 → session' ≡ session
 
 -- what an answer says, its count the starting states, and what it leaves
-abbrev pub Begun : List ℕ → List ℕ → Answer → List ℕ → Type 0
-Begun file session r session' = BeginsSession file session (number_of r.number) r.count session'
+abbrev pub Begun : List ℕ → List ℕ → Result ℕ Refusal → List ℕ → Type 0
+Begun file session r session' = BeginsSession file session (number_of r) (count_of r) session'
+
+-- the first byte of a piece as a number, 256 of an empty one: as `head_at` has it
+abbrev pub head_number : Option ℕ → ℕ
+head_number None = 256
+head_number (Some byte) = byte

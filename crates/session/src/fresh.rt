@@ -5,20 +5,17 @@ ghost use Rattle.session_meaning.specs.Sessions.{started};
 ghost use Rattle.session_meaning.specs.Bytes.{bytes_of};
 ghost use Rattle.session.specs.Calls.{Begun};
 
-use numbers::{Answer, is_taken, taken};
+use numbers::Refusal;
 use session_bytes::{SIZE, clear};
 
 // Makes a fresh session for a good table, and says how many starting states there are.
-pub fn begin(file: &[u8], session: &mut [u8; SIZE]) -> Answer
+pub fn begin(file: &[u8], session: &mut [u8; SIZE]) -> Result<usize, Refusal>
     ensures { Begun file.now session.old result session.new }
 {
-    let checked = table_check::check(file);
-    if !is_taken(checked) {
-        return checked;
-    }
+    table_check::check(file)?;
     let set = table::starting_set(file);
     start(session, set);
-    taken(sets::size(set) as usize)
+    Ok(sets::size(set) as usize)
 }
 
 // A session with a link for each state of a set, in rising order.
@@ -27,11 +24,8 @@ fn start(session: &mut [u8; SIZE], set: u64)
 {
     clear(session);
     let mut rest = set;
-    let mut i: usize = 0;
-    while rest != 0 {
-        let state = sets::lowest(rest);
+    for i in 0..sets::size(set) as usize {
+        links::add_start(session, i, sets::lowest(rest) as u8);
         rest = sets::without_lowest(rest);
-        links::add_start(&mut session[..], i, state as u8);
-        i += 1;
     }
 }

@@ -2,18 +2,17 @@
 
 #![tactic(auto)]
 
-ghost use Rattle.std.specs.Prelude.{◌≡◌, ◌+◌, ◌≤◌, ◌<◌, [], length};
+ghost use Rattle.std.specs.Prelude.{◌≡◌, ◌+◌, ◌≤◌, ◌<◌, [], length, MatchOption};
 ghost use Rattle.words.specs.Lists.{Exact};
-ghost use Rattle.words.specs.LittleEndian.{byte};
 ghost use Rattle.session_meaning.specs.Sessions.{started};
-ghost use Rattle.session_meaning.specs.Bytes.{piece_start, piece_room, size, link_count, length_at, link_at, piece_at};
+ghost use Rattle.session_meaning.specs.Bytes.{piece_start, piece_room, size, link_count, length_at, piece_at};
 ghost use Rattle.session_meaning.specs.Bytes.{Unused, no_entry, link_bytes, bytes_of};
-ghost use Rattle.session_meaning.specs.Numbers.{Lent, seat_at, foot_at, head_at, piece_end, Clear, ClearBehind};
+ghost use Rattle.session_meaning.specs.Numbers.{head_at, piece_end, Clear, ClearBehind};
 ghost use Rattle.session_meaning.specs.Numbers.{Measured, Tidy, CanPut, Put};
 ghost use Rattle.links.specs.Heads.{five_of};
 
-use links::{HEAD, Link, blank, long, rest_blank};
-use words::{copy, load_two, wide};
+use links::{HEAD, Link, blank, count, long, rest_blank};
+use words::copy;
 
 // Where pieces start, how many places a piece has, and how many bytes there are.
 const PIECES: usize = HEAD;
@@ -22,74 +21,24 @@ const ROOM: usize = 512;
 
 pub const SIZE: usize = 33218;
 
-// What the head of a session says.
-pub fn depth(session: &[u8; SIZE]) -> usize
-    ensures { result ≡ byte session.now 0 }
-{
-    links::depth(&session[..])
-}
-
-pub fn count(session: &[u8; SIZE]) -> usize
-    ensures value { result ≡ link_count session.now }
-    ensures lent { Lent session.now }
-{
-    links::count(&session[..])
-}
-
-pub fn level(session: &[u8; SIZE], i: usize) -> usize
-    requires { i < 64 }
-    ensures { (result ≡ (link_at session.now i).level) × (result < 256) }
-{
-    links::level(&session[..], i)
-}
-
-pub fn state(session: &[u8; SIZE], i: usize) -> usize
-    requires { i < 64 }
-    ensures { (result ≡ (link_at session.now i).here.state) × (result < 256) }
-{
-    links::state(&session[..], i)
-}
-
-pub fn marker(session: &[u8; SIZE], i: usize) -> usize
-    requires { i < 64 }
-    ensures { (result ≡ (link_at session.now i).here.marker) × (result < 256) }
-{
-    links::marker(&session[..], i)
-}
-
-pub fn seat(session: &[u8; SIZE], i: usize) -> usize
-    requires { i < 64 }
-    ensures { result ≡ seat_at session.now i }
-{
-    links::seat(&session[..], i)
-}
-
-pub fn foot(session: &[u8; SIZE], i: usize) -> usize
-    requires { i < 64 }
-    ensures { result ≡ foot_at session.now i }
-{
-    links::foot(&session[..], i)
-}
-
 // A piece, as a part of the lent session.
 pub fn piece(session: &[u8; SIZE], i: usize) -> &[u8]
     requires { (i < 64) × (length_at session.now i ≤ piece_room) }
     ensures { result.now ≡ piece_at session.now i }
 {
-    let all = &session[..];
     let start = PIECES + ROOM * i;
-    &all[start..start + long(all, i)]
+    &session[start..start + long(session, i)]
 }
 
-// The first byte of a piece; 256 where it is empty.
-pub fn head(session: &[u8], i: usize) -> usize
+// The first byte of a piece, if it is not empty.
+pub fn head(session: &[u8], i: usize) -> Option<u8>
     requires { (length session.now ≡ size) × (i < 64) }
-    ensures { result ≡ head_at session.now i }
+    ensures { MatchOption result (head_at session.now i ≡ 256) (λ byte. head_at session.now i ≡ byte) }
 {
     if long(session, i) == 0 {
-        return 256;
+        return None;
     }
-    wide(session[PIECES + ROOM * i])
+    Some(session[PIECES + ROOM * i])
 }
 
 // Whether the places that a session does not use hold 0: of links and lengths, behind pieces, and of pieces.
@@ -97,13 +46,9 @@ pub fn unused(session: &[u8]) -> bool
     requires { (length session.now ≡ size) × Measured session.now }
     ensures { Exact (Unused session.now) result }
 {
-    if !rest_blank(session) {
-        return false;
-    }
-    if !behind_pieces(session) {
-        return false;
-    }
-    blank(session, PIECES + ROOM * links::count(session), SIZE)
+    rest_blank(session)
+        && behind_pieces(session)
+        && blank(session, PIECES + ROOM * count(session), SIZE)
 }
 
 // The places of the pieces behind their lengths.
@@ -111,13 +56,10 @@ fn behind_pieces(session: &[u8]) -> bool
     requires { (length session.now ≡ size) × Measured session.now }
     ensures { Exact (ClearBehind session.now (link_count session.now)) result }
 {
-    let n = links::count(session);
-    let mut i = 0;
-    while i < n {
+    for i in 0..count(session) {
         if !behind_piece(session, i) {
             return false;
         }
-        i += 1;
     }
     true
 }
@@ -142,16 +84,14 @@ pub fn put_entry(session: &mut [u8; SIZE], i: usize, link: Link, piece: &[u8])
     requires { CanPut session.old i piece.now }
     ensures { Put session.old i (five_of link) piece.now session.new }
 {
-    let all = &mut session[..];
-    let old = long(all, i);
+    let old = long(session, i);
     let n = piece.len();
     let start = PIECES + ROOM * i;
-    links::put(all, i, link, n);
-    copy(all, start, piece);
-    if old <= n {
-        return;
+    links::put(session, i, link, n);
+    copy(session, start, piece);
+    if n < old {
+        words::clear(session, start + n, old - n);
     }
-    words::clear(all, start + n, old - n);
 }
 
 // No link and no piece at a place.
@@ -166,7 +106,5 @@ pub fn clear_entry(session: &mut [u8; SIZE], i: usize)
         state_below: 0,
         marker_below: 0,
     };
-    let none = [0u8; 1];
-    let all = &none[..];
-    put_entry(session, i, nothing, &all[0..0]);
+    put_entry(session, i, nothing, &[]);
 }

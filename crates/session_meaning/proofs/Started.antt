@@ -1,5 +1,5 @@
 -- The bytes of a session that begins: zeros, and then two bytes set for each state. Assumes nothing.
-use mathlib.Core.Path.{◌≡◌, refl, sym, ◌∙◌, ap}
+use mathlib.Core.Path.{◌≡◌, refl, sym, ◌∙◌}
 use mathlib.Core.Logic.{◌⊎◌, inl, inr, ⊎_elim}
 use mathlib.Core.List.{List, [], ◌∷◌, ◌++◌}
 use Prim.Native.Nat.{ℕ, zero, suc, ◌+◌, ◌-◌, ◌/◌, ◌%◌, ◌<◌, ◌≤◌}
@@ -9,11 +9,11 @@ use native.Mathlib.Numerals.{add-one}
 use borrow.Author.Tests.{lt-ltb, le-ltb}
 use lib.ListN.{length, replicate, get_or, set, take, length-map, length-append, length-replicate, length-set}
 use lib.ListN.{get_or-map, get_or-append, get_or-eq_default, get_or-replicate}
-use lib.Seq.{ext_get_or, get_or-set_same, get_or-set_other, get_or_at, length-take-le, take-suc, take_all}
+use lib.Seq.{ext_get_or, get_or-set_same, get_or-set_other, get_or_at, length-take-le, take-suc}
 use Rattle.words.proofs.Lists.{below_or}
 use Rattle.meaning.specs.Answers.{links_cap}
 use Rattle.sets.specs.Sets.{members}
-use Rattle.sets.proofs.Members.{members-le, Visit, visit-start, visit-done, Turn}
+use Rattle.sets.proofs.Members.{members-le, Visit, Turn}
 use Rattle.session_meaning.specs.Sessions.{starts, started}
 use Rattle.session_meaning.specs.Bytes.{link_start, size, link_bytes, entry_of, byte_of, bytes_of}
 use Rattle.session_meaning.proofs.Encoded.{byte-of, whole_of, get_or-zeros}
@@ -153,9 +153,6 @@ pub record Starting (states i rest : ℕ) (session : List ℕ) : Type 0 where
   pub visit : Visit states i rest
   pub is : session ≡ bytes_of (started (take i (members states)))
 
-pub starting-none : {session : List ℕ} (states : ℕ) → session ≡ bytes_of (started []) → Starting states 0 states session
-starting-none states e = record { visit = visit-start states; is = e }
-
 pub starting-more : {states i rest q after : ℕ} {session session' : List ℕ} → Starting states i rest session
     → Turn states i q after → session' ≡ set (set session 1 (i + 1)) (link_start i + 1) q
     → Starting states (i + 1) after session'
@@ -165,9 +162,3 @@ starting-more {states} {i} {q = q} s t d =
     let e = start-more (take i l) q (omega (arith, n, t.within, members-le states)) in
     let f : take (i + 1) l ≡ take i l ++ q ∷ [] = rw (add-one, ← t.is) (take-suc l i 0 t.within) in
     record { visit = t.onward; is = d ∙ rw (s.is, f) (rw n at e) }
-
-pub starting-all : {states i rest : ℕ} {session : List ℕ} → Starting states i rest session → rest ≡ 0
-    → session ≡ bytes_of (started (members states))
-starting-all {states} {i} s e =
-    let h : length (members states) ≤ i = omega (arith, visit-done s.visit e) in
-    s.is ∙ ap (λ (l : List ℕ). bytes_of (started l)) (take_all i (members states) h)

@@ -3,7 +3,7 @@ use mathlib.Core.Path.{◌≡◌, refl, sym, ◌∙◌, ap, subst}
 use mathlib.Core.Bool.{Bool, true, false}
 use mathlib.Core.Logic.{◌⊎◌, inl, inr}
 use mathlib.Core.List.{List, [], ◌∷◌, append-nil}
-use Prim.Native.Nat.{ℕ, ◌+◌, ◌-◌, ◌<◌, ◌≤◌}
+use Prim.Native.Nat.{ℕ, ◌<◌, ◌≤◌}
 use native.Mathlib.Nat.{eq-or-lt_of_le}
 use native.Mathlib.Omega.{arith}
 use lib.ListN.{length, drop, length-map}
@@ -12,84 +12,48 @@ use Rattle.words.specs.Words.{Word}
 use Rattle.words.specs.Order.{Less}
 use Rattle.words.proofs.Lists.{first_of, length-up_to}
 use Rattle.words.proofs.Ordered.{rises-out}
-use Rattle.words.specs.LittleEndian.{byte}
-use Rattle.numbers.specs.Numbers.{number_of}
-use Rattle.numbers.specs.declared.Number.{Number}
-use Rattle.numbers.specs.declared.Number.TheVariants.{Taken, UnknownSymbol, Unopened, TooDeep}
-use Rattle.numbers.specs.declared.Answer.{Answer}
-use Rattle.meaning.specs.Table.{unused, call, return, internal, edition1, GoodTable}
+use Rattle.std.specs.Prelude.{Result, Ok, Err, IsErrAnd}
+use Rattle.numbers.specs.Numbers.{refusal_number}
+use Rattle.numbers.specs.declared.Refusal.{Refusal}
+use Rattle.numbers.specs.declared.Refusal.TheVariants.{NoRun, Crowded, Conflict}
+use Rattle.numbers.proofs.Told.{refusal-some}
+use Rattle.meaning.specs.Table.{edition1, GoodTable}
 use Rattle.meaning.specs.Trails.{link_key}
 use Rattle.meaning.specs.Answers.{links_cap}
 use Rattle.table.specs.File.{table_of}
 use Rattle.table.specs.Good.{first_edition}
+use Rattle.table.specs.Calls.{Judged}
 use Rattle.table.proofs.Stands.{good-table}
 use Rattle.session_meaning.specs.Sessions.{Entry}
 use Rattle.session_meaning.specs.Bytes.{link_count, link_at, entry_at, session_of}
 use Rattle.step_meaning.specs.Stepping.{grow, keep, kept, shaken, link_number}
-use Rattle.step_meaning.specs.Promises.{Proper}
+use Rattle.step_meaning.specs.Promises.{Proper, Answered}
 use Rattle.step_meaning.proofs.Keep.{keep-among, keep-linked}
 use Rattle.step_meaning.proofs.Grow.{grow-level}
 use Rattle.step_meaning.proofs.Shake.{kept-fewer}
 use Rattle.step_meaning.proofs.Bounds.{deeper-within, grow-small, grow-short}
-use Rattle.step_meaning.proofs.Told.{answered, told-refused}
+use Rattle.step_meaning.proofs.Told.{told-refused, told-bad-table}
 use Rattle.step_drafts.specs.Drafts.{draft_room, draft_in, drafts_of, Drafted, Plain, AllAt, shaken_over}
 use Rattle.step_growth.specs.Growing.{Gathered, Usable, Fitting}
-use Rattle.step.specs.Tests.{Opened, Left, Part}
-use Rattle.step.proofs.Tested.{open-call, open-return, open-internal, unknown, unopened, too-deep, Moves}
-use Rattle.step.proofs.Tested.{Fits, crowded, conflicting, no_run}
+use Rattle.step.specs.Tests.{Opened, Left}
+use Rattle.step.proofs.Tested.{Moves, Fits, crowded, conflicting, no_run}
 
--- an answer of a part: a refusal with the step's number, or what was found
-pub part-refused : {file session : List ℕ} {a : ℕ} {P : ℕ → Type 0} {r : Answer} {x : Number} → Proper file session
-    → (r.number ≡ x) × (r.count ≡ 0) → (number_of x ≡ 0 → ⊥)
-    → ((room : ℕ) → link_number (table_of file) room (session_of session) a ≡ number_of x) → Part file session a P r
-part-refused {file} {session} {a} proper e some h =
-    record {
-      refused = λ no_zero out.
-          answered e (told-refused file session a out proper.good proper.sound (h (length out)) some);
-      passed = λ z. absurd (some (sym (ap number_of e.0) ∙ z));
-    }
+-- what a part that refuses answers: the step's own refusal, from its number by the links
+abbrev Refused : List ℕ → List ℕ → ℕ → Refusal → Type 0
+Refused file session a x = (out : List ℕ) → Answered file session a out (Err x) session out
 
-pub part-passed : {file session : List ℕ} {a d : ℕ} {P : ℕ → Type 0} {r : Answer} → (r.number ≡ Taken) × (r.count ≡ d)
-    → P d → Part file session a P r
-part-passed {P = P} e h =
-    record { refused = λ no_zero. absurd (no_zero (ap number_of e.0)); passed = λ z. subst P (sym e.1) h }
+refused : {file session : List ℕ} {a : ℕ} → Proper file session → (x : Refusal)
+    → ((room : ℕ) → link_number (table_of file) room (session_of session) a ≡ refusal_number x)
+    → Refused file session a x
+refused {file} {session} {a} proper x h out =
+    told-refused file session a out proper.good proper.sound (h (length out)) (refusal-some x)
 
-module _ {file session : List ℕ} (proper : Proper file session) (symbol depth : ℕ) (is : depth ≡ byte session 0) where
-  abbrev Refused : Number → Type 0
-  Refused x =
-      (r : Answer) → (r.number ≡ x) × (r.count ≡ 0) → Part file session symbol (Opened file session symbol) r
-
-  -- by class, with the depth as it was read
-  pub asked-unused : (table_of file).class symbol ≡ unused → Refused UnknownSymbol
-  asked-unused k r e =
-      part-refused proper e (λ z. omega arith)
-      (λ room. unknown (table_of file) (session_of session) symbol room k)
-
-  pub asked-deep : (table_of file).class symbol ≡ call → depth ≡ (table_of file).depth_cap → Refused TooDeep
-  asked-deep k d r e =
-      part-refused proper e (λ z. omega arith)
-      (λ room. too-deep (table_of file) (session_of session) symbol room k (omega arith))
-
-  pub asked-closed : (table_of file).class symbol ≡ return → depth ≡ 0 → Refused Unopened
-  asked-closed k d r e =
-      part-refused proper e (λ z. omega arith)
-      (λ room. unopened (table_of file) (session_of session) symbol room k (omega arith))
-
-  pub opened-call : (table_of file).class symbol ≡ call → (depth ≡ (table_of file).depth_cap → ⊥)
-      → Opened file session symbol (depth + 1)
-  opened-call k n =
-      let o = open-call (table_of file) (session_of session) symbol k (λ e. n (omega arith)) in
-      record { proper = proper; to = o; is = rw k (omega arith) }
-
-  pub opened-return : (table_of file).class symbol ≡ return → (depth ≡ 0 → ⊥) → Opened file session symbol (depth - 1)
-  opened-return k n =
-      let o = open-return (table_of file) (session_of session) symbol k (λ e. n (omega arith)) in
-      record { proper = proper; to = o; is = rw k (omega arith) }
-
-  pub opened-internal : (table_of file).class symbol ≡ internal → Opened file session symbol depth
-  opened-internal k =
-      let o = open-internal (table_of file) (session_of session) symbol k in
-      record { proper = proper; to = o; is = rw k (omega arith) }
+-- what `check` refuses, a step refuses with the same answer
+pub asked-bad : {file session out : List ℕ} {a : ℕ} (x : Refusal) (r : Result ℕ Refusal)
+    → Judged file (refusal_number x) → IsErrAnd r (λ y. y ≡ x) → Answered file session a out r session out
+asked-bad x (Ok n) j e = elim e [ ]
+asked-bad {file} {session} {out} {a} x (Err y) j e =
+    rw e (told-bad-table file session a out j refl (refusal-some x))
 
 -- what growing is asked, and what its answers say
 module _ {file session : List ℕ} {symbol depth : ℕ} (o : Opened file session symbol depth) where
@@ -101,14 +65,6 @@ module _ {file session : List ℕ} {symbol depth : ℕ} (o : Opened file session
 
   abbrev G : List Entry
   G = grow (table_of file) (session_of session) symbol
-
-  -- no step goes deeper than 32
-  pub opened-shallow : depth ≤ 32
-  opened-shallow =
-      let T = table_of file in
-      let deep = (session_of session).depth in
-      let d = deeper-within (T.class symbol) deep T.depth_cap R.sound.sound.depth o.to.shallow in
-      omega (arith, o.is, rules.depth_cap.1)
 
   pub opened-usable : Usable file session
   opened-usable = record { good = R.good; kept = R.sound.kept; levels = levels }
@@ -171,8 +127,9 @@ module _ {file session : List ℕ} {symbol depth : ℕ} (o : Opened file session
             let k = keep-linked [] G z.0.link z.0.piece z.1 in
             absurd (omega (arith, some (keep [] G) k.1, counted))
 
-    pub grown-empty : link_count work ≡ 0 → (room : ℕ) → link_number (table_of file) room (session_of session) symbol ≡ 6
-    grown-empty e room = no_run (table_of file) (session_of session) symbol room o.to (grown-none e)
+    pub grown-empty : link_count work ≡ 0 → Refused file session symbol NoRun
+    grown-empty e =
+        refused R NoRun (λ room. no_run (table_of file) (session_of session) symbol room o.to (grown-none e))
 
     -- all of it is at the new depth
     pub grown-level : AllAt depth (drafts_of work)
@@ -193,9 +150,11 @@ module _ {file session : List ℕ} {symbol depth : ℕ} (o : Opened file session
           go [] e = absurd (some e)
           go (z ∷ E) e = refl
 
-      pub grown-crowded : links_cap < length (shaken_over session depth (drafts_of work)) → (room : ℕ)
-          → link_number (table_of file) room (session_of session) symbol ≡ 7
-      grown-crowded l room = crowded (table_of file) (session_of session) symbol room moves (rw over-is at l)
+      pub grown-crowded : links_cap < length (shaken_over session depth (drafts_of work))
+          → Refused file session symbol Crowded
+      grown-crowded l =
+          refused R Crowded
+          (λ room. crowded (table_of file) (session_of session) symbol room moves (rw over-is at l))
 
       module _ {work' : List ℕ} (d : Drafted work' × (drafts_of work' ≡ shaken_over session depth (drafts_of work))) where
         fits : Fits (table_of file) (session_of session) symbol
@@ -204,9 +163,10 @@ module _ {file session : List ℕ} {symbol depth : ℕ} (o : Opened file session
             let n = length-map (up_to (link_count work')) (draft_in work') ∙ length-up_to (link_count work') in
             record { moves = moves; few = omega (arith, d.0.few) }
 
-        pub grown-conflict : clash ≡ true → (room : ℕ) → link_number (table_of file) room (session_of session) symbol ≡ 8
-        grown-conflict c room =
-            conflicting (table_of file) (session_of session) symbol room fits (sym g.odds ∙ c)
+        pub grown-conflict : clash ≡ true → Refused file session symbol Conflict
+        grown-conflict c =
+            refused R Conflict
+            (λ room. conflicting (table_of file) (session_of session) symbol room fits (sym g.odds ∙ c))
 
         pub grown-left : clash ≡ false → Left file session symbol depth work'
         grown-left c =
@@ -216,13 +176,13 @@ module _ {file session : List ℕ} {symbol depth : ℕ} (o : Opened file session
               are = d.1 ∙ over-is;
             }
 
-  pub opened-crowded : links_cap < length (keep [] G) → (room : ℕ)
-      → link_number (table_of file) room (session_of session) symbol ≡ 7
-  opened-crowded l room =
+  pub opened-crowded : links_cap < length (keep [] G) → Refused file session symbol Crowded
+  opened-crowded l =
       let T = table_of file in
       let S = session_of session in
       let k = kept-fewer T S symbol R.sound.sound G [] (sym (append-nil G)) in
-      crowded T S symbol room (record { open-to = o.to; some = some G l }) (omega arith)
+      refused R Crowded
+      (λ room. crowded T S symbol room (record { open-to = o.to; some = some G l }) (omega arith))
     where
       some : (E : List Entry) → links_cap < length (keep [] E) → is_empty E ≡ false
       some [] h = absurd (omega arith)

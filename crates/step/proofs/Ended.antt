@@ -3,7 +3,7 @@ use mathlib.Core.Path.{◌≡◌, sym, ◌∙◌, ap, subst}
 use mathlib.Core.Logic.{◌⊎◌, inl, inr}
 use mathlib.Core.List.Memᴰ
 use mathlib.Core.List.{List, ◌∷◌, [], ◌++◌}
-use Prim.Native.Nat.{ℕ, ◌<◌, ◌≤◌}
+use Prim.Native.Nat.{ℕ, ◌-◌, ◌<◌, ◌≤◌}
 use native.Mathlib.Omega.{arith}
 use lib.ListN.{length, take, drop, length-drop}
 use lib.Seq.{length-take-le}
@@ -145,14 +145,11 @@ module _ {file session work : List ℕ} {symbol depth : ℕ} (d : Left file sess
     are : drafts_of work' ≡ (stepped (T l) (S l) symbol).entries
     are = s.are ∙ ap (λ (K : List Entry). cut (push K)) d.are
 
-    sent_is : take r.length (drop r.at work') ≡ sent (T l) (S l) symbol
-    sent_is = s.sent ∙ ap (λ (K : List Entry). base (push K) (0 ∷ [])) d.are
+    abbrev part : Word
+    part = take (r.sent.end - r.sent.start) (drop r.sent.start work')
 
-    long-is : r.length ≡ length (sent (T l) (S l) symbol)
-    long-is =
-        sym (length-take-le r.length (drop r.at work')
-        (omega (arith, s.part, s.whole, length-drop r.at work')))
-        ∙ ap length sent_is
+    sent_is : part ≡ sent (T l) (S l) symbol
+    sent_is = s.sent ∙ ap (λ (K : List Entry). base (push K) (0 ∷ [])) d.are
 
     waiting : r.longest ≡ longest (stepped (T l) (S l) symbol).entries
     waiting = s.longest ∙ ap (λ (K : List Entry). longest (cut (push K))) d.are
@@ -167,15 +164,14 @@ module _ {file session work : List ℕ} {symbol depth : ℕ} (d : Left file sess
       waits : Waits (T l) (S l) symbol
       waits = record { agrees = agrees l; short = rw waiting at le }
 
-      pub settled-no-room : (out : List ℕ) → length out < r.length → Stepped file session symbol out 10 0 session out
+      pub settled-no-room : (out : List ℕ) → length out < length part → Stepped file session symbol out 10 0 session out
       settled-no-room out lt =
-          let e = long-is in
           told-refused file session symbol out (proper l).good (proper l).sound
-          (no_room (T l) (S l) symbol (length out) waits (omega arith)) (λ z. omega arith)
+          (no_room (T l) (S l) symbol (length out) waits (rw sent_is at lt)) (λ z. omega arith)
 
-      module _ (out : List ℕ) (room : r.length ≤ length out) where
+      module _ (out : List ℕ) (room : length part ≤ length out) where
         is-taken : link_number (T l) (length out) (S l) symbol ≡ 0
-        is-taken = let e = long-is in taken (T l) (S l) symbol (length out) waits (omega arith)
+        is-taken = taken (T l) (S l) symbol (length out) waits (rw sent_is at room)
 
         after : Sound (T l) (stepped (T l) (S l) symbol)
         after = stepped-sound (T l) (S l) symbol (ok l) (length out) is-taken (rules l)
@@ -203,14 +199,10 @@ module _ {file session work : List ℕ} {symbol depth : ℕ} (d : Left file sess
                       (omega (arith, lies, s.whole, length-drop (where_at work' i) work')),
                 )
 
-        pub settled-taken : {session' out' part : List ℕ} → session' ≡ bytes_of (drafted depth work')
-            → part ≡ take r.length (drop r.at work') → out' ≡ part ++ drop (length part) out
-            → Stepped file session symbol out 0 r.length session' out'
-        settled-taken e g f =
+        pub settled-taken : {session' out' : List ℕ} → session' ≡ bytes_of (drafted depth work')
+            → out' ≡ part ++ drop (length part) out → Stepped file session symbol out 0 (length part) session' out'
+        settled-taken e f =
             let is : drafted depth work' ≡ stepped (T l) (S l) symbol =
             λ i. record { depth = l.opened.is i; entries = are i } in
-            told-taken file session symbol out (proper l).good (proper l).sound (proper l).small is-taken long-is
-            (e ∙ ap bytes_of is)
-            (f
-            ∙ ap (λ (w : Word). w ++ drop (length w) out) (g ∙ sent_is)
-            ∙ ap (λ (k : ℕ). sent (T l) (S l) symbol ++ drop k out) (sym long-is))
+            told-taken file session symbol out (proper l).good (proper l).sound (proper l).small is-taken
+            (ap length sent_is) (e ∙ ap bytes_of is) (f ∙ ap (λ (w : Word). w ++ drop (length part) out) sent_is)

@@ -1,24 +1,24 @@
 -- A session written place by place from drafts: one place, on the way, and all of it. Assumes nothing.
-use mathlib.Core.Path.{◌≡◌, refl, sym, ◌∙◌, ap, subst}
+use mathlib.Core.Path.{◌≡◌, refl, sym, ◌∙◌, subst}
 use mathlib.Core.Logic.{◌⊎◌, inl, inr}
 use mathlib.Core.List.{List, []}
 use Prim.Native.Nat.{ℕ, ◌+◌, ◌<◌, ◌≤◌}
 use native.Mathlib.Omega.{arith}
-use lib.ListN.{length, get_or, set, drop, length-map, length-set, length-drop, get_or-eq_default}
-use lib.Seq.{length-take-le, get_or-set_same, get_or-set_other}
+use lib.ListN.{length, get_or, set, length-map, length-set, get_or-eq_default}
+use lib.Seq.{get_or-set_same, get_or-set_other}
 use Rattle.words.specs.Lists.{up_to}
 use Rattle.words.proofs.Lists.{below_or, length-up_to, get_or-map-up_to}
 use Rattle.words.specs.LittleEndian.{byte}
 use Rattle.meaning.specs.Answers.{links_cap}
 use Rattle.session_meaning.specs.Sessions.{Entry}
-use Rattle.session_meaning.specs.Bytes.{link_start, length_start, piece_start, size, link_count, length_at, Kept, no_entry}
+use Rattle.session_meaning.specs.Bytes.{link_start, length_start, piece_start, size, link_count, Kept, no_entry}
 use Rattle.session_meaning.specs.Bytes.{link_bytes, bytes_of}
-use Rattle.session_meaning.specs.Numbers.{Tidy, CanPut, Holds, Same, Put}
+use Rattle.session_meaning.specs.Numbers.{Holds, Same, Put}
 use Rattle.session_meaning.proofs.Held.{put-others, held_same, same-all, same_then, none_kept, held_all}
 use Rattle.links.specs.declared.Link.{Link}
 use Rattle.links.specs.Heads.{five_of, Read}
 use Rattle.links.proofs.Linked.{read-bytes}
-use Rattle.step_drafts.specs.Drafts.{where_at, piece_in, draft_in, drafts_of}
+use Rattle.step_drafts.specs.Drafts.{piece_in, draft_in, drafts_of}
 use Rattle.step.specs.Writing.{Fitting, drafted, PutFrom, Written}
 
 module _ (work : List ℕ) where
@@ -37,13 +37,6 @@ put-none work {bytes} {bytes'} {n} {p} e le h =
 
 -- to a place before their end comes the draft there
 module _ {work : List ℕ} (f : Fitting work) (p : ℕ) (lt : p < link_count work) where
-  pub draft-ready : {bytes piece : List ℕ} → piece ≡ piece_in work p → Tidy bytes p → CanPut bytes p piece
-  draft-ready {piece = piece} is tidy =
-      let n =
-      length-take-le (length_at work p) (drop (where_at work p) work)
-      (omega (arith, f.lies p lt, f.whole, length-drop (where_at work p) work)) in
-      record { range = omega (arith, f.few); short = omega (arith, ap length is, f.short p lt); tidy = tidy }
-
   pub put-draft : {bytes bytes' piece : List ℕ} {l : Link} → Read work (link_start p) l → piece ≡ piece_in work p
       → Put bytes p (five_of l) piece bytes' → PutFrom (drafts_of work) bytes p bytes'
   put-draft {bytes} {bytes'} r is h =

@@ -5,9 +5,9 @@ use mathlib.Core.List.{[]}
 use Prim.Native.Nat.{ℕ, ◌<◌, ◌≤◌}
 use lib.Dec.{ltb}
 use lib.ListN.{length}
-use borrow.Author.Tests.{lt-ltb, le-ltb, eq-eqb, ne_eqb}
+use borrow.Author.Tests.{lt-ltb, le-ltb}
 use Rattle.words.specs.Lists.{is_empty}
-use Rattle.meaning.specs.Table.{unused, call, return, internal, Table}
+use Rattle.meaning.specs.Table.{Table}
 use Rattle.meaning.specs.Answers.{links_cap}
 use Rattle.session_meaning.specs.Sessions.{Session}
 use Rattle.session_meaning.specs.Soundly.{longest}
@@ -15,17 +15,6 @@ use Rattle.step.specs.Tests.{Open}
 use Rattle.step_meaning.specs.Stepping.{grow, kept, shaken, conflict, stepped, sent, link_number}
 
 module _ (T : Table) (S : Session) (a : ℕ) where
-  -- by class: what may follow, and what the depth forbids
-  pub open-call : T.class a ≡ call → (S.depth ≡ T.depth_cap → ⊥) → Open T S a
-  open-call e n =
-      record { known = rw e; opened = rw e; shallow = rw (e, ne_eqb S.depth T.depth_cap n) }
-
-  pub open-return : T.class a ≡ return → (S.depth ≡ 0 → ⊥) → Open T S a
-  open-return e n = record { known = rw e; opened = rw (e, ne_eqb S.depth 0 n); shallow = rw e }
-
-  pub open-internal : T.class a ≡ internal → Open T S a
-  open-internal e = record { known = rw e; opened = rw e; shallow = rw e }
-
   -- something moves; then: the links are few; none clash; the waiting outputs are short
   pub record Moves : Type 0 where
     pub open-to : Open T S a
@@ -44,15 +33,6 @@ module _ (T : Table) (S : Session) (a : ℕ) where
     pub short : longest (stepped T S a).entries ≤ T.waiting_cap
 
   module _ (room : ℕ) where
-    pub unknown : T.class a ≡ unused → link_number T room S a ≡ 3
-    unknown e = rw e
-
-    pub unopened : T.class a ≡ return → S.depth ≡ 0 → link_number T room S a ≡ 4
-    unopened e z = rw (e, eq-eqb S.depth 0 z)
-
-    pub too-deep : T.class a ≡ call → S.depth ≡ T.depth_cap → link_number T room S a ≡ 5
-    too-deep e z = rw (e, eq-eqb S.depth T.depth_cap z)
-
     pub no_run : Open T S a → is_empty (grow T S a) ≡ true → link_number T room S a ≡ 6
     no_run o e = rw (o.known, o.opened, o.shallow, e)
 

@@ -1,8 +1,7 @@
 -- What a step knows once the first of its tests have passed, and what its parts answer.
-use Rattle.std.specs.Prelude.{◌≡◌, false, ◌&&◌, List, [], ℕ, ◌≤◌, eqb, length}
+use Rattle.std.specs.Prelude.{◌≡◌, false, ◌&&◌, List, [], ℕ, ◌≤◌, eqb, length, Result, Ok, Err, ⊤}
 use Rattle.words.specs.Lists.{is_empty}
-use Rattle.numbers.specs.Numbers.{number_of}
-use Rattle.numbers.specs.declared.Answer.{Answer}
+use Rattle.numbers.specs.declared.Refusal.{Refusal}
 use Rattle.meaning.specs.Table.{unused, call, return, is, Table}
 use Rattle.meaning.specs.Answers.{links_cap, deeper}
 use Rattle.table.specs.File.{table_of}
@@ -38,13 +37,13 @@ pub record Left (file session : List ℕ) (a depth : ℕ) (work : List ℕ) : Ty
 
 -- what a part of a step answers: a refusal is the step's own, whatever the output is, and all is as it was; else this
 -- holds of what it found
-pub record Part (file session : List ℕ) (a : ℕ) (P : ℕ → Type 0) (r : Answer) : Type 0 where
-  pub refused : (number_of r.number ≡ 0 → ⊥) → (out : List ℕ) → Answered file session a out r session out
-  pub passed : number_of r.number ≡ 0 → P r.count
+abbrev pub Part : {A : Type 0} → List ℕ → List ℕ → ℕ → (A → Type 0) → Result A Refusal → Type 0
+Part file session a P (Ok found) = P found
+Part file session a P (Err refusal) = (out : List ℕ) → Answered file session a out (Err refusal) session out
 
 -- what looking at the symbol answers, and what drafting does
-abbrev pub Opens : List ℕ → List ℕ → ℕ → Answer → Type 0
+abbrev pub Opens : List ℕ → List ℕ → ℕ → Result ℕ Refusal → Type 0
 Opens file session a r = Part file session a (Opened file session a) r
 
-abbrev pub Drafting : List ℕ → List ℕ → ℕ → ℕ → List ℕ → Answer → Type 0
-Drafting file session a depth work r = Part file session a (λ n. Left file session a depth work) r
+abbrev pub Drafting : List ℕ → List ℕ → ℕ → ℕ → List ℕ → Result ⊤ Refusal → Type 0
+Drafting file session a depth work r = Part file session a (λ u. Left file session a depth work) r

@@ -4,15 +4,20 @@ ghost use Rattle.step_meaning.specs.Promises.{Proper, Answered};
 ghost use Rattle.step.specs.Tests.{Opened, Opens, Drafting};
 
 use crate::write;
-use numbers::{Answer, Number, is_taken, refused, taken};
+use numbers::Refusal;
 use session_bytes::SIZE;
-use step_drafts::{WORK, settle, shake};
-use step_growth::growth::{Growth, grow};
+use step_drafts::{Settled, WORK, settle, shake};
+use step_growth::growth::grow;
 use table::Class;
 use words::send;
 
 // Takes one symbol.
-pub fn step(file: &[u8], session: &mut [u8; SIZE], symbol: u8, out: &mut [u8]) -> Answer
+pub fn step(
+    file: &[u8],
+    session: &mut [u8; SIZE],
+    symbol: u8,
+    out: &mut [u8],
+) -> Result<usize, Refusal>
     ensures { Answered file.now session.old symbol out.old result
         session.new out.new }
 {
@@ -28,62 +33,42 @@ pub fn step_in(
     symbol: u8,
     out: &mut [u8],
     work: &mut [u8; WORK],
-) -> Answer
+) -> Result<usize, Refusal>
     ensures { Answered file.now session.old symbol out.old result
         session.new out.new }
 {
-    let checked = table_check::check(file);
-    if !is_taken(checked) {
-        return checked;
-    }
+    table_check::check(file)?;
     if !session::sound(file, session) {
-        return refused(Number::BadSession);
+        return Err(Refusal::BadSession);
     }
-    let admitted = admit(file, session, symbol);
-    if !is_taken(admitted) {
-        return admitted;
+    let depth = admit(file, session, symbol)?;
+    draft(file, session, symbol, depth, work)?;
+    let Settled { sent, longest } = settle(work);
+    if table::waiting_cap(file) < longest {
+        return Err(Refusal::Backlog);
     }
-    let depth = admitted.count;
-    let drafted = draft(file, session, symbol, depth, work);
-    if !is_taken(drafted) {
-        return drafted;
+    let sent = &work[sent];
+    let count = sent.len();
+    if out.len() < count {
+        return Err(Refusal::NoRoom);
     }
-    let settled = settle(work);
-    let at = settled.at;
-    let long = settled.length;
-    if table::waiting_cap(file) < settled.longest {
-        return refused(Number::Backlog);
-    }
-    if out.len() < long {
-        return refused(Number::NoRoom);
-    }
-    let all = &work[..];
-    send(out, &all[at..at + long]);
+    send(out, sent);
     write::write(session, work, depth);
-    taken(long)
+    Ok(count)
 }
 
-// Whether the symbol is known and the depth allows it; for a count, the depth that follows.
-fn admit(file: &[u8], session: &[u8; SIZE], symbol: u8) -> Answer
+// Whether the symbol is known and the depth allows it: the depth that follows.
+fn admit(file: &[u8], session: &[u8; SIZE], symbol: u8) -> Result<usize, Refusal>
     requires { Proper file.now session.now }
     ensures { Opens file.now session.now symbol result }
 {
-    let depth = session_bytes::depth(session);
+    let depth = links::depth(session);
     match table::class_of(file, symbol) {
-        Class::Unused => refused(Number::UnknownSymbol),
-        Class::Call => {
-            if depth == table::depth_cap(file) {
-                return refused(Number::TooDeep);
-            }
-            taken(depth + 1)
-        }
-        Class::Return => {
-            if depth == 0 {
-                return refused(Number::Unopened);
-            }
-            taken(depth - 1)
-        }
-        Class::Internal => taken(depth),
+        Class::Unused => Err(Refusal::UnknownSymbol),
+        Class::Call if depth == table::depth_cap(file) => Err(Refusal::TooDeep),
+        Class::Call => Ok(depth + 1),
+        Class::Return => depth.checked_sub(1).ok_or(Refusal::Unopened),
+        Class::Internal => Ok(depth),
     }
 }
 
@@ -95,23 +80,21 @@ fn draft(
     symbol: u8,
     depth: usize,
     work: &mut [u8; WORK],
-) -> Answer
+) -> Result<(), Refusal>
     requires { Opened file.now session.now symbol depth }
     ensures { Drafting file.now session.now symbol depth work.new result }
 {
-    match grow(file, session, symbol, work) {
-        Growth::Full => refused(Number::Crowded),
-        Growth::Made { clash } => {
-            if links::count(&work[..]) == 0 {
-                return refused(Number::NoRun);
-            }
-            if !shake(session, depth, work) {
-                return refused(Number::Crowded);
-            }
-            if clash {
-                return refused(Number::Conflict);
-            }
-            taken(0)
-        }
+    let Some(clash) = grow(file, session, symbol, work) else {
+        return Err(Refusal::Crowded);
+    };
+    if links::count(work) == 0 {
+        return Err(Refusal::NoRun);
     }
+    if !shake(session, depth, work) {
+        return Err(Refusal::Crowded);
+    }
+    if clash {
+        return Err(Refusal::Conflict);
+    }
+    Ok(())
 }

@@ -7,7 +7,6 @@ ghost use Rattle.step.specs.Writing.{Fitting, drafted, PutFrom, Written};
 
 use session_bytes::SIZE;
 use step_drafts::WORK;
-use words::larger;
 
 // The drafts become the session. Places that only the one before used are set to 0, and no others are: most places of
 // a session are not used.
@@ -15,10 +14,10 @@ pub fn write(session: &mut [u8; SIZE], work: &[u8; WORK], depth: usize)
     requires { Kept session.old × Fitting work.now × (depth < 256) }
     ensures { session.new ≡ bytes_of (drafted depth work.now) }
 {
-    let n = links::count(&work[..]);
-    let end = larger(n, links::count(&session[..]));
+    let n = links::count(work);
+    let end = n.max(links::count(session));
     write_places(session, work, end);
-    links::set_head(&mut session[..], depth, n);
+    links::set_head(session, depth, n);
 }
 
 // The places below `end`, one after the other.
@@ -26,10 +25,8 @@ fn write_places(session: &mut [u8; SIZE], work: &[u8; WORK], end: usize)
     requires { (end ≤ 64) × ((i : ℕ) → i < end → Tidy session.old i) × Fitting work.now }
     ensures { Written (drafts_of work.now) session.old end session.new }
 {
-    let mut p: usize = 0;
-    while p < end {
+    for p in 0..end {
         write_place(session, work, p);
-        p += 1;
     }
 }
 
@@ -38,10 +35,14 @@ fn write_place(session: &mut [u8; SIZE], work: &[u8; WORK], p: usize)
     requires { (p < 64) × Tidy session.old p × Fitting work.now }
     ensures { PutFrom (drafts_of work.now) session.old p session.new }
 {
-    if links::count(&work[..]) <= p {
+    if links::count(work) <= p {
         session_bytes::clear_entry(session, p);
         return;
     }
-    let link = links::read(&work[..], p);
-    session_bytes::put_entry(session, p, link, step_drafts::piece(work, p));
+    session_bytes::put_entry(
+        session,
+        p,
+        links::read(work, p),
+        step_drafts::piece(work, p),
+    );
 }

@@ -1,13 +1,12 @@
 -- Parts written one after the other, and drafts moved one after the other: what is left on the way. Assumes nothing.
-use mathlib.Core.Path.{◌≡◌, refl, sym, ◌∙◌, ap}
-use mathlib.Core.Logic.{◌⊎◌, inl, inr}
-use mathlib.Core.List.{List, [], ◌∷◌, ◌++◌}
+use mathlib.Core.Path.{◌≡◌, sym, ◌∙◌, ap}
+use mathlib.Core.Logic.{◌⊎◌, inl, inr, ⊎_elim}
+use mathlib.Core.List.{List, ◌++◌}
 use Prim.Native.Nat.{ℕ, ◌+◌, ◌-◌, ◌<◌, ◌≤◌}
-use native.Mathlib.Nat.{add-zero}
-use native.Mathlib.Numerals.{add-one}
 use native.Mathlib.Omega.{arith}
-use lib.ListN.{length, take, drop, set, length-append, length-set, get_or-append}
-use lib.Seq.{get_or-append-add, get_or-set_same, get_or-set_other, length-take-le, take-suc, take_all, paste}
+use lib.ListN.{length, take, drop, length-append, get_or-append}
+use lib.Seq.{get_or-append-add, paste}
+use Rattle.std.specs.List.{CopiedTo, SameBelow, SameFrom}
 use Rattle.words.specs.Words.{Word, Bytes}
 use Rattle.words.proofs.Pasted.{pasted}
 use Rattle.words.proofs.Lists.{below_or}
@@ -20,23 +19,6 @@ use Rattle.step_drafts.proofs.Rooms.{piece-length, piece_byte, moved-self, moved
 use Rattle.step_drafts.proofs.Rooms.{small-written}
 
 -- words written one after the other
-
-pub written_none : (work : List ℕ) (at : ℕ) → Written work at [] work
-written_none work at = record { whole = refl; here = λ i l. absurd (omega arith); others = λ k o. refl }
-
-written_one : (work : List ℕ) (at b : ℕ) → at < length work → Written work at (b ∷ []) (set work at b)
-written_one work at b lt =
-    record {
-      whole = length-set work at b;
-      here = λ i l.
-          let e : i ≡ 0 = omega arith in
-          rw (e, add-zero) (get_or-set_same work at b 0 lt);
-      others = λ k o. get_or-set_other work at k b 0 (apart k o);
-    }
-  where
-    apart : (k : ℕ) → (k < at) ⊎ (at + 1 ≤ k) → k ≡ at → ⊥
-    apart k (inl l) e = omega arith
-    apart k (inr l) e = omega arith
 
 -- a word, and another right behind it
 written_next : {work one two : List ℕ} {at : ℕ} {v w : Word} → Written work at v one
@@ -61,26 +43,20 @@ written_next {work} {one} {two} {at} {v} {w} a b =
     others k (inl l) = b.others k (inl (omega arith)) ∙ a.others k (inl l)
     others k (inr g) = b.others k (inr (omega arith)) ∙ a.others k (inr (omega arith))
 
--- copied from another place, one byte more at a time
-pub within_more : {work one : List ℕ} (from at many i : ℕ) → from + many ≤ length work → at + many ≤ length work
-    → (from + many ≤ at) ⊎ (at + many ≤ from) → i < many → Written work at (take i (take many (drop from work))) one
-    → Written work at (take (i + 1) (take many (drop from work))) (set one (at + i) (byte one (from + i)))
-within_more {work} {one} from at many i fits room apart lt a =
-    let w = take many (drop from work) in
+-- copied from another place
+pub written-within : {work one : List ℕ} (from at many : ℕ) → from + many ≤ length work
+    → length one ≡ length work → CopiedTo work one from at many → SameBelow work one at → SameFrom work one (at + many)
+    → Written work at (take many (drop from work)) one
+written-within {work} {one} from at many fits whole copied before behind =
     let n = piece-length work from many fits in
-    let m : length (take i w) ≡ i = length-take-le i w (omega arith) in
-    let same : byte one (from + i) ≡ byte w i =
-    a.others (from + i) (away m apart) ∙ sym (piece_byte work from many i lt) in
-    rw (same, add-one, take-suc w i 0 (omega arith))
-    (written_next a (rw m (written_one one (at + i) (byte w i) (omega (arith, a.whole)))))
-  where
-    away : {n : ℕ} → n ≡ i → (from + many ≤ at) ⊎ (at + many ≤ from) → (from + i < at) ⊎ (at + n ≤ from + i)
-    away e (inl h) = inl (omega arith)
-    away e (inr h) = inr (omega arith)
-
-pub written_all : {work one : List ℕ} {at : ℕ} (i : ℕ) (w : Word) → length w ≤ i → Written work at (take i w) one
-    → Written work at w one
-written_all i w le a = rw (take_all i w le) at a
+    record {
+      whole = whole;
+      here = λ i l.
+          let m : i < many = omega arith in
+          let e : from + (at + i - at) ≡ from + i = omega arith in
+          copied (at + i) 0 (omega arith) (omega arith) ∙ ap (byte work) e ∙ sym (piece_byte work from many i m);
+      others = λ k o. ⊎_elim (λ h. before k 0 h) (λ h. behind k 0 (omega arith)) o;
+    }
 
 -- three parts
 pub filled : {work one two three : List ℕ} (at : ℕ) (a b c : Word)

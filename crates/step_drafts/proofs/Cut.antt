@@ -7,6 +7,7 @@ use Prim.Native.Nat.{ℕ, zero, suc, ◌+◌, ◌-◌, ◌/◌, ◌%◌, ◌<◌
 use native.Mathlib.Omega.{arith}
 use lib.ListN.{length, take, drop, length-append}
 use lib.Seq.{drop-drop, take-nil}
+use Rattle.std.specs.declared.ops.Range.{Range}
 use Rattle.words.specs.Lists.{up_to}
 use Rattle.words.specs.Words.{Word, Bytes}
 use Rattle.words.specs.Order.{Less}
@@ -27,7 +28,8 @@ use Rattle.step_meaning.specs.Stepping.{foot, seat, has_foot, base, push, cut, e
 use Rattle.step_meaning.proofs.Feet.{foot-exact, foot-own}
 use Rattle.links.specs.Heads.{with_length}
 use Rattle.step_drafts.specs.Drafts.{where_start, handed_start, work_size, where_at, handed_at}
-use Rattle.step_drafts.specs.Drafts.{piece_in, draft_in, drafts_of, with_two, Drafted, Plain, foot_no, Lies, CommonOn}
+use Rattle.words.specs.LittleEndian.{with_two}
+use Rattle.step_drafts.specs.Drafts.{piece_in, draft_in, drafts_of, Drafted, Plain, foot_no, Lies, CommonOn}
 use Rattle.step_drafts.specs.Drafts.{SameLinks, Pushed, beside_of, Cutting, CutBy, CutOne, CutTo, Ready, SettledTo}
 use Rattle.step_drafts.proofs.Numbers.{foot-number, lowest-number, from-plain, foot-from}
 use Rattle.step_drafts.proofs.Listed.{part_in}
@@ -364,9 +366,10 @@ module _ {work : List ℕ} (r : Ready work) where
                 ∙ r.plain i (omega arith) (sym (ap (λ (l : Link). l.level) e) ∙ z);
           }
 
-      pub settled-to : {most : ℕ} → most ≡ longest_of (weights done)
-          → SettledTo work (record { at = at; length = long; longest = most }) done
-      settled-to {most} e =
+      pub settled-to : {part : Range ℕ} {most : ℕ} → part.start ≡ at → part.end ≡ at + long
+          → most ≡ longest_of (weights done) → SettledTo work (record { sent = part; longest = most }) done
+      settled-to {part} {most} first last e =
+          let size : part.end - part.start ≡ long = omega arith in
           let m = same_count links in
           let few = r.drafts.few in
           record {
@@ -376,9 +379,11 @@ module _ {work : List ℕ} (r : Ready work) where
             are = are;
             below = λ i l. same_none links i (omega arith) (r.drafts.below i (omega arith) l);
             lies = λ i l. cut-lies p.drafts enough c i (omega (arith, n));
-            part = common.lies;
+            ordered = omega arith;
+            part = omega (arith, common.lies);
             sent =
-                piece-same pushed at long done c.links.whole (λ k h. slots k h) ∙ sent_is;
+                rw (size, first)
+                (piece-same pushed at long done c.links.whole (λ k h. slots k h) ∙ sent_is);
             longest =
                 e
                 ∙ ap longest_of (sym (weights-are done (links.whole ∙ r.drafts.whole)

@@ -4,7 +4,6 @@ pub mod Numbers
 pub mod Rooms
 pub mod Carried
 pub mod Putting
-pub mod Turns
 pub mod Shaken
 pub mod Groups
 pub mod Pushing

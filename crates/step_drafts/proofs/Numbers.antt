@@ -226,28 +226,3 @@ module _ (bytes : List ℕ) (small : Bytes bytes) (k : ℕ) where
 
     pub foot-from : foot_from bytes k ≡ foot_no (link_from bytes k)
     foot-from = omega (arith, pair-from)
-
-  -- bytes with the number of a plain link are that link
-  pub from-number : (l : Link) → Plain l → key_from bytes k ≡ link_no l → (link_from bytes k ≡ l) × NoneBelow bytes k
-  from-number l plain e = (number-one (link_from bytes k) l from-plain plain (sym (key-from below) ∙ e), below)
-    where
-      below : NoneBelow bytes k
-      below z = go (below_of l plain)
-        where
-          go : Below l → (byte bytes (k + 3) ≡ 0) × (byte bytes (k + 4) ≡ 0)
-          go (nothing w n x) =
-              let s = plain.state in
-              let m = plain.marker in
-              let a = at_byte 1 in
-              let b = at_byte 2 in
-              let c = at_byte 3 in
-              let d = at_byte 4 in
-              (omega arith, omega arith)
-          go (something p h n x s t) =
-              let u = plain.state in
-              let m = plain.marker in
-              let a = at_byte 1 in
-              let b = at_byte 2 in
-              let c = at_byte 3 in
-              let d = at_byte 4 in
-              absurd (omega arith)

@@ -5,7 +5,7 @@ use mathlib.Core.Logic.{◌⊎◌, inl, inr, ⊎_elim}
 use mathlib.Core.List.Memᴰ
 use mathlib.Core.List.{List, [], ◌∷◌, ◌++◌, map}
 use Prim.Native.Nat.{ℕ, zero, suc, ◌+◌, ◌*◌, ◌/◌, ◌%◌, ◌<◌, ◌≤◌}
-use native.Mathlib.Nat.{eq-or-lt_of_le, eq-zero-or-pos}
+use native.Mathlib.Nat.{eq-or-lt_of_le}
 use native.Mathlib.Omega.{arith}
 use lib.ListN.{length, take, drop, length-append}
 use lib.Seq.{ext_get_or, take-add, drop-drop}
@@ -17,14 +17,14 @@ use Rattle.words.specs.LittleEndian.{byte}
 use Rattle.meaning.specs.Trails.{Link}
 use Rattle.session_meaning.specs.Sessions.{Entry, entry}
 use Rattle.session_meaning.specs.Bytes.{link_start, length_start, link_count, length_at, link_at, NoneBelow}
-use Rattle.session_meaning.specs.Numbers.{seat_at, foot_at, level_of, Levelled, pairs}
+use Rattle.session_meaning.specs.Numbers.{seat_at, foot_at, Levelled, pairs}
 use Rattle.step_meaning.specs.Stepping.{seat, base, push}
 use Rattle.step_meaning.proofs.Push.{pushed}
 use Rattle.links.specs.Heads.{with_length}
 use Rattle.links.proofs.Linked.{link-same}
-use Rattle.links.proofs.Levelled.{foot-level, seat-level}
 use Rattle.step_drafts.specs.Drafts.{where_start, handed_start, slot_start, draft_room, work_size, where_at, handed_at}
-use Rattle.step_drafts.specs.Drafts.{piece_in, draft_in, drafts_in, drafts_of, with_two, Away, Drafted, Written}
+use Rattle.words.specs.LittleEndian.{with_two}
+use Rattle.step_drafts.specs.Drafts.{piece_in, draft_in, drafts_in, drafts_of, Away, Drafted, Written}
 use Rattle.step_drafts.specs.Drafts.{CommonOn, SameLinks, above_of, PushedOne, Pushed, Short}
 use Rattle.step_drafts.proofs.Listed.{part-cons, part_none, part_same}
 use Rattle.step_drafts.proofs.Rooms.{apart, piece_byte, piece-length, piece-same, small-two}
@@ -131,25 +131,6 @@ module _ {work starts : List ℕ} {i from many foot : ℕ} (d : Drafted work)
       go : (j < i) ⊎ (i < j) → Away (where_at work j) (where_at work i)
       go (inl h) = d.apart j i (omega arith) h lt
       go (inr h) = ⊎_elim inr inl (d.apart i j (omega arith) h l)
-
-  -- what is copied shares no place with where it comes
-  pub disjoint : Room work i → (from + many ≤ (end_of work i)) ⊎ ((end_of work i) + many ≤ from)
-  disjoint room = go (eq-zero-or-pos many)
-    where
-      other : (j : ℕ) → foot_at work j ≡ foot → j ≡ i → ⊥
-      other j f e =
-          let a = foot-level work d.small (link_start j) in
-          let b = seat-level work d.small (link_start i) in
-          let l = ap (λ (j : ℕ). (link_at work j).level) e in
-          omega (arith, ap level_of (f ∙ at))
-
-      go : (many ≡ 0) ⊎ (0 < many) → (from + many ≤ (end_of work i)) ⊎ ((end_of work i) + many ≤ from)
-      go (inl z) = ⊎_elim (λ h. inl (omega arith)) (λ h. inr (omega arith)) (below_or from (end_of work i))
-      go (inr p) =
-          let k = c.place p in
-          let r = has_room room in
-          let s = k.2 in
-          ⊎_elim (λ h. inl (omega arith)) (λ h. inr (omega arith)) (away k.0 k.1 (other k.0 k.3))
 
   module _ {one three : List ℕ} (two : List ℕ) (room : Room work i) (copy : Written work (end_of work i) (take many
       (drop from work)) one)
@@ -377,9 +358,6 @@ module _ {work₀ work : List ℕ} {j : ℕ} (i : ℕ) (g : Pushing work₀ j wo
 
   above-is : above_of work i ≡ base (drafts_in work (i + 1) size) (seat (link_at work i))
   above-is = ap (λ (n : ℕ). base (drafts_in work (i + 1) n) (seat (link_at work i))) (same_count g.links)
-
-  pub pushing-in : i < link_count work
-  pushing-in = omega (arith, same_count g.links, inside)
 
   pub pushing-room : Short (push (drafts_of work₀)) → length (piece_in work i) + length (above_of work i) ≤ draft_room
   pushing-room short =

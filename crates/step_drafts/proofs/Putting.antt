@@ -2,18 +2,22 @@
 -- Assumes nothing.
 use mathlib.Core.Path.{◌≡◌, refl, sym, ◌∙◌, ap, subst}
 use mathlib.Core.Bool.{true, false}
-use mathlib.Core.Logic.{◌⊎◌, inl, inr}
+use mathlib.Core.Logic.{◌⊎◌, inl, inr, ⊎_elim}
 use mathlib.Core.List.{List, map}
 use Prim.Native.Nat.{ℕ, ◌+◌, ◌-◌, ◌<◌, ◌≤◌}
 use native.Mathlib.Nat.{eq-or-lt_of_le}
 use native.Mathlib.Omega.{arith}
+use native.Mathlib.Numerals.{add-one}
 use lib.ListN.{length, set}
-use Rattle.words.specs.Lists.{◌among◌, up_to}
+use Rattle.std.specs.Ordering.{is_lt, is_eq}
+use Rattle.std.specs.declared.cmp.Ordering.{Ordering}
+use Rattle.std.specs.declared.cmp.Ordering.TheVariants.{Less, Equal, Greater}
+use Rattle.words.specs.Lists.{◌among◌, up_to, Exact}
 use Rattle.words.specs.Words.{Word, Bytes}
-use Rattle.words.specs.Order.{Less, put}
+use Rattle.words.specs.Order.{Less as Below, put}
 use Rattle.words.proofs.Lists.{below_or}
 use Rattle.words.proofs.Ordered.{less-self, rises-one, rises-out}
-use Rattle.words.proofs.Exact.{exact_same, no-exact}
+use Rattle.words.proofs.Exact.{exact_same, yes-exact, no-exact}
 use Rattle.words.specs.LittleEndian.{byte}
 use Rattle.meaning.specs.Trails.{Link}
 use Rattle.meaning.specs.Answers.{links_cap}
@@ -23,7 +27,7 @@ use Rattle.session_meaning.specs.Numbers.{key_at}
 use Rattle.step_meaning.specs.Stepping.{entry_key, clashes}
 use Rattle.step_meaning.proofs.Keep.{clashes-exact}
 use Rattle.links.specs.declared.Link.{Link as Five}
-use Rattle.links.specs.Heads.{five_of, key_of, meant}
+use Rattle.links.specs.Heads.{five_of, key_of, meant, Stands, Compared}
 use Rattle.step_drafts.specs.Drafts.{slot_start, draft_room, work_size, where_at, piece_in, draft_in}
 use Rattle.step_drafts.specs.Drafts.{drafts_of, Away, Drafted, link_no, Plain, Clean, Moved, Written, Drew, Lifted}
 use Rattle.step_drafts.specs.Drafts.{DraftPlace, There, Placed, NoSlot, Rest}
@@ -34,7 +38,33 @@ use Rattle.step_drafts.proofs.Rooms.{drew-none, piece-written, rest_then, headed
 use Rattle.step_drafts.proofs.Rooms.{headed-moved}
 use Rattle.step_drafts.proofs.Carried.{written-moved}
 
-unlike : (xs ys : Word) → xs ≡ ys → Less xs ys → ⊥
+-- what comparing tells, by its answer
+module _ {bytes : List ℕ} {i : ℕ} {l : Five} {o : Ordering} (c : Compared bytes i l o) where
+  pub told-below : is_lt o ≡ true → key_at bytes i < key_of l
+  told-below e = go o c.stands e
+    where
+      go : (o : Ordering) → Stands o (key_at bytes i) (key_of l) → is_lt o ≡ true → key_at bytes i < key_of l
+      go Less s e = s
+      go Equal s e = absurd (cc)
+      go Greater s e = absurd (cc)
+
+  pub told-from : is_lt o ≡ false → key_of l ≤ key_at bytes i
+  told-from e = go o c.stands e
+    where
+      go : (o : Ordering) → Stands o (key_at bytes i) (key_of l) → is_lt o ≡ false → key_of l ≤ key_at bytes i
+      go Less s e = absurd (cc)
+      go Equal s e = omega arith
+      go Greater s e = omega arith
+
+  pub told-is : Exact (key_at bytes i ≡ key_of l) (is_eq o)
+  told-is = go o c.stands
+    where
+      go : (o : Ordering) → Stands o (key_at bytes i) (key_of l) → Exact (key_at bytes i ≡ key_of l) (is_eq o)
+      go Less s = no-exact (λ e. omega arith)
+      go Equal s = yes-exact s
+      go Greater s = no-exact (λ e. omega arith)
+
+unlike : (xs ys : Word) → xs ≡ ys → Below xs ys → ⊥
 unlike xs ys e h = less-self ys (rw e at h)
 
 no-clash : (e : Entry) (E : List Entry) → ((f : Entry) → f among E → entry_key e ≡ entry_key f → e.piece ≡ f.piece)
@@ -55,6 +85,21 @@ module _ {work : List ℕ} (drafts : Drafted work) where
         let m = (number-rises (link_at work i) (link_at work j) (plain_at i) (plain_at j)).0 r in
         omega (arith, m, number i (omega arith), number j k)
 
+    -- where one draft is below a link and the next is not, all before it are below
+    pub place-edge : {l : Five} {n at : ℕ} → n ≡ link_count work → at ≤ n
+        → ((i : ℕ) → i + 1 ≡ at → key_at work i < key_of l) → (at < n → key_of l ≤ key_at work at)
+        → DraftPlace work n l at
+    place-edge {l} {n} {at} all le edge here =
+        record {
+          within = le;
+          below = λ i h.
+              let last = edge (at - 1) (omega arith) in
+              let go : (i + 1 ≡ at) ⊎ (i + 1 < at) → key_at work i < key_of l = λ o.
+              ⊎_elim (edge i) (λ m. omega (arith, keys-rise i (at - 1) (omega arith) (omega arith))) o in
+              go (eq-or-lt_of_le (rw add-one h));
+          here = here;
+        }
+
     -- a link and its place among the drafts
 
     module _ {l : Five} {n at : ℕ} (all : n ≡ link_count work) (clean : Clean l) (place : DraftPlace work n l at)
@@ -68,7 +113,7 @@ module _ {work : List ℕ} (drafts : Drafted work) where
       number-five : key_of l ≡ link_no (meant l)
       number-five = key-from (five_of l) (clean-bytes clean) 0 clean.none
 
-      before : (i : ℕ) → i < at → Less (entry_key (draft_in work i)) (entry_key new-entry)
+      before : (i : ℕ) → i < at → Below (entry_key (draft_in work i)) (entry_key new-entry)
       before i h =
           let w = place.within in
           (number-rises (link_at work i) (meant l) (plain_at i) plain-five).1
@@ -120,7 +165,7 @@ module _ {work : List ℕ} (drafts : Drafted work) where
             go (inl e) (inr z) = subst (λ (i : ℕ). key_of l < key_at work i) e z
             go (inr m) (inr z) = omega (arith, keys-rise at i m k)
 
-        above : (i : ℕ) → at ≤ i → i < link_count work → Less (entry_key new-entry) (entry_key (draft_in work i))
+        above : (i : ℕ) → at ≤ i → i < link_count work → Below (entry_key new-entry) (entry_key (draft_in work i))
         above i h k =
             (number-rises (meant l) (link_at work i) plain-five (plain_at i)).1
             (omega (arith, above-key i h k, number i k, number-five))

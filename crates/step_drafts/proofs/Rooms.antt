@@ -17,12 +17,13 @@ use Rattle.words.specs.LittleEndian.{byte}
 use Rattle.meaning.specs.Answers.{links_cap}
 use Rattle.session_meaning.specs.Sessions.{entry}
 use Rattle.session_meaning.specs.Bytes.{link_start, length_start, link_count, length_at, link_at, NoneBelow}
-use Rattle.session_meaning.specs.Numbers.{foot_at, pairs}
+use Rattle.session_meaning.specs.Numbers.{pairs}
 use Rattle.links.specs.declared.Link.{Link as Five}
 use Rattle.links.specs.Heads.{five_of, meant, Read, with_link}
 use Rattle.links.proofs.Linked.{link-same, Linked, linked}
 use Rattle.step_drafts.specs.Drafts.{where_start, slot_start, draft_room, work_size, where_at}
-use Rattle.step_drafts.specs.Drafts.{piece_in, draft_in, with_two, Away, Drafts, Clean, Moved, Rest, Drew}
+use Rattle.words.specs.LittleEndian.{with_two}
+use Rattle.step_drafts.specs.Drafts.{piece_in, draft_in, Away, Drafts, Clean, Moved, Rest, Drew}
 use Rattle.step_drafts.specs.Drafts.{Written, drafts_in, drafts_of, Drafted}
 use Rattle.step_drafts.proofs.Listed.{part_same}
 
@@ -121,9 +122,6 @@ module _ {work work' : List ℕ} {i j : ℕ} (m : Moved work i work' j) where
   moved_none h z =
       let b = h (sym level-byte ∙ z) in
       (m.link 3 (omega arith) ∙ b.0, m.link 4 (omega arith) ∙ b.1)
-
-  pub moved-foot : foot_at work' j ≡ foot_at work i
-  moved-foot = omega (arith, level-byte, m.link 3 (omega arith), m.link 4 (omega arith))
 
   -- with its piece, where that is as it was
   pub moved-draft : length work' ≡ length work

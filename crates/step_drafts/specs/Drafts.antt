@@ -1,6 +1,6 @@
 -- The room that a step works in: a head as a session has, two bytes a link for where its piece starts, two for how much
 -- it handed down, and 64 slots of 768 places for pieces. Drafts stand in the order of a session's links.
-use Rattle.std.specs.Prelude.{◌≡◌, ◌⊎◌, ◌↔◌, Bool, true, false, List, [], ◌∷◌, ◌++◌, map, ℕ, ◌+◌, ◌-◌, ◌*◌, ◌/◌, ◌%◌, ◌<◌, ◌≤◌, eqb, length, get_or, set, take, drop}
+use Rattle.std.specs.Prelude.{◌≡◌, ◌⊎◌, ◌↔◌, Bool, true, false, List, [], ◌∷◌, ◌++◌, map, ℕ, ◌+◌, ◌-◌, ◌*◌, ◌<◌, ◌≤◌, eqb, length, get_or, take, drop}
 use Rattle.std.proofs.Math.Option.{Option, some, none}
 use Rattle.words.specs.Lists.{◌among◌, up_to}
 use Rattle.words.specs.Words.{Word, Bytes, shared, common}
@@ -54,10 +54,6 @@ drafts_in work from to = drop from (map (draft_in work) (up_to to))
 
 abbrev pub drafts_of : List ℕ → List Entry
 drafts_of work = map (draft_in work) (up_to (link_count work))
-
--- two bytes were written as a number
-abbrev pub with_two : List ℕ → ℕ → ℕ → List ℕ
-with_two bytes at n = set (set bytes at (n % 256)) (at + 1) (n / 256)
 
 -- no two slots share a place
 abbrev pub Away : ℕ → ℕ → Type 0
@@ -317,6 +313,7 @@ pub record SettledTo (work : List ℕ) (r : Settled) (work' : List ℕ) : Type 0
   pub are : drafts_of work' ≡ cut (push (drafts_of work))
   pub below : (i : ℕ) → i < link_count work → NoneBelow work' (link_start i)
   pub lies : (i : ℕ) → i < link_count work → Lies work' i
-  pub part : r.at + r.length ≤ work_size
-  pub sent : take r.length (drop r.at work') ≡ base (push (drafts_of work)) (0 ∷ [])
+  pub ordered : r.sent.start ≤ r.sent.end
+  pub part : r.sent.end ≤ work_size
+  pub sent : take (r.sent.end - r.sent.start) (drop r.sent.start work') ≡ base (push (drafts_of work)) (0 ∷ [])
   pub longest : r.longest ≡ longest (cut (push (drafts_of work)))

@@ -12,8 +12,8 @@ fn carry(work: &mut [u8; WORK], from: usize, to: usize)
     ensures { Wrote work.old to work.new ×
         Moved work.old from work.new to }
 {
-    let link = links::read(&work[..], from);
-    let long = links::long(&work[..], from);
+    let link = links::read(work, from);
+    let long = links::long(work, from);
     let at = room::start(work, from);
     room::write(work, to, link, long, at);
 }
@@ -23,9 +23,7 @@ pub fn lift(work: &mut [u8; WORK], at: usize, n: usize, by: usize)
     requires { (at ≤ n) × (n + by ≤ 64) × Bytes work.old }
     ensures { Lifted work.old at n by work.new }
 {
-    let mut i = n;
-    while at < i {
-        i -= 1;
+    for i in (at..n).rev() {
         carry(work, i, i + by);
     }
 }
@@ -35,10 +33,7 @@ pub fn lower(work: &mut [u8; WORK], first: usize)
     requires { (first ≤ 64) × Bytes work.old }
     ensures { Lowered work.old first (64 - first) work.new }
 {
-    let many = 64 - first;
-    let mut i: usize = 0;
-    while i < many {
+    for i in 0..64 - first {
         carry(work, first + i, i);
-        i += 1;
     }
 }

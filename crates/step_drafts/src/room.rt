@@ -4,11 +4,12 @@ ghost use Rattle.words.specs.Words.{Bytes};
 ghost use Rattle.session_meaning.specs.Numbers.{pairs};
 ghost use Rattle.links.specs.Heads.{five_of};
 ghost use Rattle.step_drafts.specs.Drafts.{slot_start, draft_room, work_size, where_at, handed_at, piece_in};
-ghost use Rattle.step_drafts.specs.Drafts.{where_start, handed_start, with_two, Lies, Written, Drew, Drafted};
+ghost use Rattle.words.specs.LittleEndian.{with_two};
+ghost use Rattle.step_drafts.specs.Drafts.{where_start, handed_start, Lies, Written, Drew, Drafted};
 ghost use Rattle.step_drafts.specs.Drafts.{drafts_of};
 
 use links::Link;
-use words::{copy, load_two};
+use words::{copy, load_two, store_two};
 
 // Where the places of pieces, what was handed down, and the slots start; how many bytes a slot has, and the room.
 const WHERE: usize = 450;
@@ -26,7 +27,7 @@ pub fn start(work: &[u8; WORK], i: usize) -> usize
     requires { i < 64 }
     ensures { (result ≡ where_at work.now i) × (result < pairs) }
 {
-    load_two(&work[..], WHERE + 2 * i)
+    load_two(work, WHERE + 2 * i)
 }
 
 // How much a draft handed down.
@@ -34,7 +35,7 @@ pub fn handed(work: &[u8; WORK], i: usize) -> usize
     requires { i < 64 }
     ensures { (result ≡ handed_at work.now i) × (result < pairs) }
 {
-    load_two(&work[..], HANDED + 2 * i)
+    load_two(work, HANDED + 2 * i)
 }
 
 // A draft's piece, as a part of the room.
@@ -43,32 +44,21 @@ pub fn piece(work: &[u8; WORK], i: usize) -> &[u8]
     ensures { result.now ≡ piece_in work.now i }
 {
     let from = start(work, i);
-    let end = from + links::long(&work[..], i);
-    let all = &work[..];
-    &all[from..end]
-}
-
-// A number in two bytes.
-fn put_two(bytes: &mut [u8], at: usize, n: usize)
-    requires { (at + 2 ≤ length bytes.old) × (n < pairs) }
-    ensures { bytes.new ≡ with_two bytes.old at n }
-{
-    bytes[at] = (n % 256) as u8;
-    bytes[at + 1] = (n / 256) as u8;
+    &work[from..from + links::long(work, i)]
 }
 
 pub fn set_start(work: &mut [u8; WORK], i: usize, at: usize)
     requires { (i < 64) × (at < pairs) }
     ensures { work.new ≡ with_two work.old (where_start i) at }
 {
-    put_two(&mut work[..], WHERE + 2 * i, at);
+    store_two(work, WHERE + 2 * i, at);
 }
 
 pub fn set_handed(work: &mut [u8; WORK], i: usize, many: usize)
     requires { (i < 64) × (many < pairs) }
     ensures { work.new ≡ with_two work.old (handed_start i) many }
 {
-    put_two(&mut work[..], HANDED + 2 * i, many);
+    store_two(work, HANDED + 2 * i, many);
 }
 
 // A link at a place, with how long its piece is and where that starts.
@@ -77,7 +67,7 @@ pub fn write(work: &mut [u8; WORK], i: usize, link: Link, n: usize, at: usize)
     requires bytes { Bytes work.old × Bytes (five_of link) }
     ensures { Drew work.old i link n at work.new }
 {
-    links::put(&mut work[..], i, link, n);
+    links::put(work, i, link, n);
     set_start(work, i, at);
 }
 
@@ -98,10 +88,9 @@ pub fn fill(work: &mut [u8; WORK], at: usize, a: &[u8], b: &[u8], c: &[u8])
 {
     let second = at + a.len();
     let third = second + b.len();
-    let all = &mut work[..];
-    copy(all, at, a);
-    copy(all, second, b);
-    copy(all, third, c);
+    copy(work, at, a);
+    copy(work, second, b);
+    copy(work, third, c);
 }
 
 // How many drafts there are.
@@ -109,13 +98,13 @@ pub fn set_count(work: &mut [u8; WORK], n: usize)
     requires { n < 256 }
     ensures { work.new ≡ set (set work.old 0 0) 1 n }
 {
-    links::set_head(&mut work[..], 0, n);
+    links::set_head(work, 0, n);
 }
 
 // No draft is there, whatever the lent room holds: that it holds bytes is known to one who reads it.
 pub fn clear(work: &mut [u8; WORK])
     ensures { Drafted work.new × (drafts_of work.new ≡ []) }
 {
-    links::count(&work[..]);
+    links::count(work);
     set_count(work, 0);
 }

@@ -1,30 +1,23 @@
 // Settling drafts: pieces get what those above have in common, and are then cut by what is beside them in common.
-ghost use Rattle.std.specs.Prelude.{◌≡◌, ◌+◌, ◌≤◌, ◌<◌, ◌⊎◌, length, take, drop};
+ghost use Rattle.std.specs.Prelude.{◌+◌, ◌-◌, ◌≤◌, ◌<◌, length};
 ghost use Rattle.session_meaning.specs.Bytes.{link_count, length_at};
 ghost use Rattle.session_meaning.specs.Numbers.{level_of, Levelled};
 ghost use Rattle.step_meaning.specs.Stepping.{push as push_of};
 ghost use Rattle.step_drafts.specs.Drafts.{draft_room, work_size, piece_in, drafts_of, Drafted, CommonOn};
 ghost use Rattle.step_drafts.specs.Drafts.{above_of, Lies, PushedOne, Pushed, Short, Cutting, CutBy};
-ghost use Rattle.step_drafts.specs.Drafts.{Written, Narrowed, CutOne, CutTo, Ready, SettledTo};
+ghost use Rattle.step_drafts.specs.Drafts.{Narrowed, CutOne, CutTo, Ready, SettledTo};
 
 use crate::room;
 use crate::room::WORK;
 use links::levels;
 use links::levels::{LEVELS, PAIRS};
+use std::ops::Range;
 use words::common_length;
 
-// What pieces have in common: so many bytes of the room, from a place on.
-#[derive(Clone, Copy)]
-pub struct Common {
-    pub at: usize,
-    pub length: usize,
-}
-
 // What is to be sent, as a part of the room, and how long the longest output is that then waits.
-#[derive(Clone, Copy)]
+#[derive(Drop)]
 pub struct Settled {
-    pub at: usize,
-    pub length: usize,
+    pub sent: Range<usize>,
     pub longest: usize,
 }
 
@@ -33,45 +26,26 @@ fn narrowed(work: &[u8; WORK], i: usize, foot: usize, at: usize, long: usize) ->
     requires { (i < 64) × Lies work.now i × (at + long ≤ work_size) }
     ensures { Narrowed work.now i foot at long result }
 {
-    if links::foot(&work[..], i) != foot {
+    if links::foot(work, i) != foot {
         return long;
     }
-    let end = at + long;
-    let all = &work[..];
-    common_length(room::piece(work, i), &all[at..end])
+    common_length(room::piece(work, i), &work[at..at + long])
 }
 
-// What the pieces of the drafts with this foot, which are of one level, have in common.
-fn common_on(work: &[u8; WORK], starts: &[u8; LEVELS], foot: usize) -> Common
+// What the pieces of the drafts with this foot, which are of one level, have in common: a part of the room.
+fn common_on(work: &[u8; WORK], starts: &[u8; LEVELS], foot: usize) -> Range<usize>
     requires { Drafted work.now × Levelled work.now starts.now × (level_of foot < 34) }
-    ensures { CommonOn work.now foot result.at result.length }
+    ensures { (result.start ≤ result.end) × CommonOn work.now foot result.start (result.end - result.start) }
 {
-    let first = levels::first_on(&work[..], starts, foot);
-    if first == links::count(&work[..]) {
-        return Common { at: 0, length: 0 };
-    }
-    let end = levels::start(starts, foot / PAIRS + 1);
+    let Some(first) = levels::first_on(work, starts, foot) else {
+        return 0..0;
+    };
     let at = room::start(work, first);
-    let mut length = links::long(&work[..], first);
-    let mut i = first + 1;
-    while i < end {
+    let mut length = links::long(work, first);
+    for i in first + 1..levels::part(starts, foot / PAIRS).end {
         length = narrowed(work, i, foot, at, length);
-        i += 1;
     }
-    Common { at, length }
-}
-
-// So many bytes from one place to another, where the two places share none.
-fn copy_within(work: &mut [u8], from: usize, at: usize, many: usize)
-    requires many_in_bounds { (from + many ≤ length work.old) × (at + many ≤ length work.old) }
-    requires fact { (from + many ≤ at) ⊎ (at + many ≤ from) }
-    ensures { Written work.old at (take many (drop from work.old)) work.new }
-{
-    let mut i: usize = 0;
-    while i < many {
-        work[at + i] = work[from + i];
-        i += 1;
-    }
+    at..at + length
 }
 
 // Puts at the end of a piece what the pieces that stand on its pair have in common, and keeps how much that is.
@@ -80,14 +54,13 @@ fn push_one(work: &mut [u8; WORK], starts: &[u8; LEVELS], i: usize)
     requires i_len_bound { length (piece_in work.old i) + length (above_of work.old i) ≤ draft_room }
     ensures { PushedOne work.old i work.new }
 {
-    let seat = links::seat(&work[..], i);
+    let seat = links::seat(work, i);
     let above = common_on(work, starts, seat);
-    let from = above.at;
-    let many = above.length;
-    let long = links::long(&work[..], i);
+    let many = above.end - above.start;
+    let long = links::long(work, i);
     let end = room::start(work, i) + long;
-    copy_within(&mut work[..], from, end, many);
-    links::set_length(&mut work[..], i, long + many);
+    work.copy_within(above, end);
+    links::set_length(work, i, long + many);
     room::set_handed(work, i, many);
 }
 
@@ -96,9 +69,7 @@ fn push(work: &mut [u8; WORK], starts: &[u8; LEVELS])
     requires { Drafted work.old × Levelled work.old starts.now × Short (push_of (drafts_of work.old)) }
     ensures { Pushed work.old work.new }
 {
-    let mut i = links::count(&work[..]);
-    while 0 < i {
-        i -= 1;
+    for i in (0..links::count(work)).rev() {
         push_one(work, starts, i);
     }
 }
@@ -108,15 +79,14 @@ fn cut_by(work: &[u8; WORK], starts: &[u8; LEVELS], sent: usize, i: usize) -> us
     requires { Levelled work.now starts.now × (i < link_count work.now) }
     ensures { CutBy work.now sent i result }
 {
-    let foot = links::foot(&work[..], i);
+    let foot = links::foot(work, i);
     if foot == 0 {
         return sent;
     }
-    let below = levels::first_with(&work[..], starts, foot);
-    if below == links::count(&work[..]) {
-        return sent;
+    match levels::first_with(work, starts, foot) {
+        Some(below) => room::handed(work, below),
+        None => sent,
     }
-    room::handed(work, below)
 }
 
 // A draft without so many bytes in front.
@@ -124,9 +94,9 @@ fn cut_one(work: &mut [u8; WORK], i: usize, many: usize)
     requires { (i < 64) × (many ≤ length_at work.old i) × Lies work.old i }
     ensures { CutOne work.old i many work.new }
 {
-    let long = links::long(&work[..], i);
+    let long = links::long(work, i);
     let at = room::start(work, i);
-    links::set_length(&mut work[..], i, long - many);
+    links::set_length(work, i, long - many);
     room::set_start(work, i, at + many);
 }
 
@@ -135,12 +105,9 @@ fn cut(work: &mut [u8; WORK], starts: &[u8; LEVELS], sent: usize)
     requires { Cutting work.old sent × Levelled work.old starts.now }
     ensures { CutTo work.old (link_count work.old) work.new }
 {
-    let n = links::count(&work[..]);
-    let mut i: usize = 0;
-    while i < n {
+    for i in 0..links::count(work) {
         let many = cut_by(work, starts, sent, i);
         cut_one(work, i, many);
-        i += 1;
     }
 }
 
@@ -150,16 +117,10 @@ pub fn settle(work: &mut [u8; WORK]) -> Settled
     ensures { SettledTo work.old result work.new }
 {
     let mut starts = [0u8; LEVELS];
-    levels::find(&work[..], &mut starts);
+    levels::find(work, &mut starts);
     push(work, &starts);
     let sent = common_on(work, &starts, 0);
-    let at = sent.at;
-    let length = sent.length;
-    cut(work, &starts, length);
-    let longest = links::weigh::longest(&work[..], &starts);
-    Settled {
-        at,
-        length,
-        longest,
-    }
+    cut(work, &starts, sent.end - sent.start);
+    let longest = links::weigh::longest(work, &starts);
+    Settled { sent, longest }
 }

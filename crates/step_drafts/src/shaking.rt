@@ -1,8 +1,7 @@
 // Shaking: of the links below the new depth, those that something stands on are drafted before the new ones.
-ghost use Rattle.std.specs.Prelude.{◌≡◌, ◌+◌, ◌<◌, ◌≤◌};
+ghost use Rattle.std.specs.Prelude.{◌<◌, ◌≤◌};
 ghost use Rattle.words.specs.Lists.{Exact};
-ghost use Rattle.words.specs.Words.{Bytes};
-ghost use Rattle.session_meaning.specs.Bytes.{link_count, link_at, entry_at, Kept};
+ghost use Rattle.session_meaning.specs.Bytes.{link_count, entry_at, Kept};
 ghost use Rattle.step_drafts.specs.Drafts.{drafts_of, Drafts, Drafted, Footed, Stays, AllAt, OneMore, shaken_over};
 ghost use Rattle.step_drafts.specs.Drafts.{LevelsRise, ShakenTo};
 
@@ -17,15 +16,13 @@ fn carried(work: &[u8; WORK], first: usize, seat: usize) -> bool
     ensures { Exact (Footed work.now first seat) result }
 {
     let level = seat / PAIRS;
-    let mut i = first;
-    while i < 64 {
-        if links::foot(&work[..], i) == seat {
+    for i in first..64 {
+        if links::foot(work, i) == seat {
             return true;
         }
-        if level < links::level(&work[..], i) {
+        if level < links::level(work, i) {
             return false;
         }
-        i += 1;
     }
     false
 }
@@ -35,10 +32,7 @@ fn stays(session: &[u8; SIZE], i: usize, depth: usize, work: &[u8; WORK], first:
     requires { (i < 64) × Drafts work.now first 64 × LevelsRise work.now first 64 × (first ≤ 64) }
     ensures { Exact (Stays session.now i depth work.now first) result }
 {
-    if depth <= links::level(&session[..], i) {
-        return false;
-    }
-    carried(work, first, links::seat(&session[..], i))
+    links::level(session, i) < depth && carried(work, first, links::seat(session, i))
 }
 
 // Drafts a link of the session, with its piece, right before the drafts that are there.
@@ -47,11 +41,10 @@ fn draft_lower(session: &[u8; SIZE], i: usize, work: &mut [u8; WORK], first: usi
     requires first_nonzero { (0 < first) × (first ≤ 64) }
     ensures { OneMore (entry_at session.now i) work.old first work.new }
 {
-    let link = links::read(&session[..], i);
+    let link = links::read(session, i);
     let piece = session_bytes::piece(session, i);
-    let none = &piece[0..0];
     let slot = room::slot(64 - first);
-    room::fill(work, slot, piece, none, none);
+    room::fill(work, slot, piece, &[], &[]);
     room::write(work, first - 1, link, piece.len(), slot);
 }
 
@@ -62,12 +55,10 @@ pub fn shake(session: &[u8; SIZE], depth: usize, work: &mut [u8; WORK]) -> bool
     requires all_at { AllAt depth (drafts_of work.old) × LevelsRise session.now 0 (link_count session.now) }
     ensures { ShakenTo (shaken_over session.now depth (drafts_of work.old)) result work.new }
 {
-    let n = links::count(&work[..]);
+    let n = links::count(work);
     moving::lift(work, 0, n, 64 - n);
     let mut first = 64 - n;
-    let mut i = links::count(&session[..]);
-    while 0 < i {
-        i -= 1;
+    for i in (0..links::count(session)).rev() {
         if stays(session, i, depth, work, first) {
             if first == 0 {
                 return false;

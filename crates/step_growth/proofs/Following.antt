@@ -1,10 +1,9 @@
 -- What follows a link by a row, and all links by all rows, in the order that the code finds it in. Assumes nothing.
 use mathlib.Core.Path.{◌≡◌, refl, sym, ◌∙◌, ap}
 use mathlib.Core.Bool.{Bool, true, false, cond, ◌&&◌}
-use mathlib.Core.Option.{some}
 use mathlib.Core.List.Memᴰ
 use mathlib.Core.List.{List, [], ◌∷◌, ◌++◌}
-use Prim.Native.Nat.{ℕ, suc, ◌+◌, ◌<◌, ◌≤◌}
+use Prim.Native.Nat.{ℕ, ◌+◌, ◌<◌, ◌≤◌}
 use native.Mathlib.Omega.{arith}
 use borrow.Author.Tests.{eq-eqb, ne_eqb, eqb-true}
 use lib.Dec.{eqb}
@@ -13,100 +12,32 @@ use Rattle.words.specs.Lists.{each, only, up_to}
 use Rattle.words.proofs.Lists.{each_map, get_or-byte}
 use Rattle.words.specs.LittleEndian.{byte}
 use Rattle.meaning.specs.Table.{Class, unused, call, return, internal, Row}
-use Rattle.meaning.specs.Trails.{Link, on}
+use Rattle.meaning.specs.Trails.{Link}
 use Rattle.table.specs.File.{row_count, word_of, row_at, table_of}
-use Rattle.table.specs.Calls.{FirstRow}
-use Rattle.table.proofs.Symbols.{none_before}
+use Rattle.table.specs.Calls.{RowsFrom}
+use Rattle.table.proofs.Symbols.{none_before, rows_behind}
 use Rattle.table.proofs.Stands.{rows-of}
 use Rattle.session_meaning.specs.Sessions.{Entry, entry}
-use Rattle.session_meaning.specs.Bytes.{pair, link_start, piece_room, link_count, length_at, link_at, piece_at, entry_at}
+use Rattle.session_meaning.specs.Bytes.{link_start, link_count, link_at, piece_at, entry_at}
 use Rattle.session_meaning.specs.Bytes.{session_of}
-use Rattle.session_meaning.specs.Bytes.{Kept}
 use Rattle.session_meaning.specs.Numbers.{seat_at, foot_at}
 use Rattle.session_meaning.proofs.Feet.{stands-foot}
 use Rattle.step_meaning.specs.Stepping.{seat, has_foot, moved_to, fits_link, follow, takes, grow}
-use Rattle.links.specs.declared.Link.{Link as Five}
-use Rattle.links.specs.Heads.{meant, Read}
-use Rattle.links.proofs.Linked.{read-meant}
-use Rattle.step_drafts.specs.Drafts.{draft_room, Plain, Clean}
-use Rattle.step_drafts.proofs.Rooms.{clean-read}
-use Rattle.step_growth.specs.Growing.{Grown, Gathers, Made, Usable, Fitting, after, lowered, uncovered, by_class}
+use Rattle.step_drafts.specs.Drafts.{draft_room, Plain}
+use Rattle.step_growth.specs.Growing.{Grown, Gathers, Usable, Fitting, after, lowered, uncovered, by_class}
 use Rattle.step_growth.specs.Growing.{by_row}
 use Rattle.step_growth.specs.Growing.{by_rows}
-use Rattle.step_growth.specs.declared.growth.Growth.{Growth}
+use Rattle.std.specs.Prelude.{Option}
 use Rattle.step_meaning.proofs.Feet.{seat-stands}
 use Rattle.step_growth.proofs.Gathering.{Passing, passing-start, passing-skip, each_same, gathers-as}
 use Rattle.step_growth.proofs.Gathering.{fitting-one}
 use Rattle.step_growth.proofs.Gathering.{fitting-as}
-
--- links by value, made of a session's
-module _ {session : List ℕ} {i : ℕ} (kept : Kept session) (lt : i < link_count session) {old : Five}
-    (r : Read session (link_start i) old) where
-  abbrev c : Clean old
-  c = clean-read i kept.small (kept.below i lt) r
-
-  pub made-moved : (q : ℕ) → q < 256
-      → Made (moved_to q (link_at session i)) (record {
-        level = old.level;
-        state = q;
-        marker = old.marker;
-        state_below = old.state_below;
-        marker_below = old.marker_below;
-      })
-  made-moved q h =
-      record {
-        is = ap (moved_to q) (sym (read-meant r));
-        clean = record {
-          level = c.level;
-          state = h;
-          marker = c.marker;
-          state-below = c.state-below;
-          marker-below = c.marker-below;
-          none = c.none;
-        };
-      }
-
-  pub made-over : (n q m : ℕ) → n ≡ old.level + 1 → Plain (on q m (link_at session i))
-      → Made (on q m (link_at session i)) (record {
-        level = n;
-        state = q;
-        marker = m;
-        state_below = old.state;
-        marker_below = old.marker;
-      })
-  made-over n q m e p =
-      record {
-        is = is;
-        clean = record {
-          level = omega (arith, p.level, r.level);
-          state = p.state;
-          marker = p.marker;
-          state-below = c.state;
-          marker-below = c.marker;
-          none = λ z. absurd (omega arith);
-        };
-      }
-    where
-      is : meant (record {
-        level = n;
-        state = q;
-        marker = m;
-        state_below = old.state;
-        marker_below = old.marker;
-      }) ≡ on q m (link_at session i)
-      is =
-          let a : n ≡ suc (link_at session i).level = omega (arith, r.level) in
-          rw (ne_eqb n 0 (λ z. omega arith))
-          (λ k. record { level = a k; here = pair q m; below = some (pair (r.state k) (r.marker k)) })
 
 -- the only one of a list is plain, and its piece has room
 pub fitting-only : {e : Entry} → Fitting (e ∷ []) → Plain e.link × (length e.piece ≤ draft_room)
 fitting-only {e} f = f.each e (Memᴰ.head refl)
 
 module _ {file session : List ℕ} (u : Usable file session) where
-  pub piece-stands : (i : ℕ) → i < link_count session → (i < 64) × (length_at session i ≤ piece_room)
-  piece-stands i l = let n = u.kept.count in (omega arith, u.kept.short i l)
-
   -- a link is uncovered exactly where its seat is the foot of the one that goes
   module _ (i r j : ℕ) where
     uncovers : {b : Bool} → eqb (foot_at session i) (seat_at session j) ≡ b
@@ -143,13 +74,13 @@ module _ (file session : List ℕ) (i r : ℕ) where
       → Fitting (uncovered file session i r j)
   return-fitting j l f = fitting-one (uncovered file session i r) j l (fitting-as f (sym return-is))
 
-  pub return-end : {n : ℕ} {work work' : List ℕ} {g g' : Growth}
+  pub return-end : {n : ℕ} {work work' : List ℕ} {g g' : Option Bool}
       → Passing (uncovered file session i r) work g n work' g' → n ≡ link_count session
       → Gathers (after file session return i r) work g g' work'
   return-end p e = gathers-as (rw e at p.made) return-is
 
   -- from a link on that is as high, nothing more is uncovered
-  pub return-stop : Usable file session → {n : ℕ} {work work' : List ℕ} {g g' : Growth}
+  pub return-stop : Usable file session → {n : ℕ} {work work' : List ℕ} {g g' : Option Bool}
       → Passing (uncovered file session i r) work g n work' g' → n < link_count session
       → (link_at session i).level ≤ (link_at session n).level
       → Gathers (after file session return i r) work g g' work'
@@ -164,30 +95,6 @@ fits_not unused r l f = refl
 fits_not call r l f = sym (ne_eqb l.here.state r.from f)
 fits_not return r l f = rw (ne_eqb l.here.state r.from f)
 fits_not internal r l f = sym (ne_eqb l.here.state r.from f)
-
-abbrev pub from_here : Class → Row → Link → Bool
-from_here unused r l = false
-from_here call r l = true
-from_here return r l = eqb l.here.marker r.marker
-from_here internal r l = true
-
-pub fits-from : (k : Class) (r : Row) (l : Link) → l.here.state ≡ r.from → from_here k r l ≡ fits_link k r l
-fits-from unused r l f = refl
-fits-from call r l f = sym (eq-eqb l.here.state r.from f)
-fits-from return r l f = rw (eq-eqb l.here.state r.from f)
-fits-from internal r l f = sym (eq-eqb l.here.state r.from f)
-
-module _ (file session : List ℕ) (k : Class) (i r : ℕ) where
-  class-is : {b : Bool} → b ≡ fits_link k (row_at file r) (link_at session i)
-      → cond b (after file session k i r) [] ≡ by_class file session k i r
-  class-is e = ap (λ (b : Bool). cond b (after file session k i r) []) e
-
-  module _ {b : Bool} (is : b ≡ fits_link k (row_at file r) (link_at session i)) where
-    pub class-fits : b ≡ true → after file session k i r ≡ by_class file session k i r
-    class-fits e = class-is (sym e ∙ is)
-
-    pub class-not : b ≡ false → [] ≡ by_class file session k i r
-    class-not e = class-is (sym e ∙ is)
 
 nothing : {A : Type 0} (b : Bool) (l : List A) → cond (b && false) l [] ≡ []
 nothing true l = refl
@@ -225,8 +132,7 @@ module _ (file session : List ℕ) (a i : ℕ) where
       let high = eqb (link_at session i).level (byte session 0) in
       ap (λ (b : Bool). cond (high && b) rest []) (not_taken r f) ∙ nothing high rest
 
-  -- the rows one after the other: those before the first of the symbol from the link's state and behind the last give
-  -- nothing
+  -- the rows one after the other: those before and behind the ones of the symbol from the link's state give nothing
   pub rows_none : ((link_at session i).level ≡ byte session 0 → ⊥) → [] ≡ by_rows file session a i
   unfolding by_rows
   rows_none f = each_same (by_row file session a i) 0 (row_count file) (omega arith) (λ k l m. by-lower k f)
@@ -236,20 +142,15 @@ module _ (file session : List ℕ) (a i : ℕ) where
   unfolding by_rows
   rows-fitting r l f = fitting-one (by_row file session a i) r l f
 
-  module _ {q : ℕ} (here : q ≡ (link_at session i).here.state) where
-    pub rows_start : {r : ℕ} {work : List ℕ} {g : Growth} → FirstRow file a q r
-        → Passing (by_row file session a i) work g r work g
-    rows_start {r} f =
-        passing-skip passing-start r (omega arith)
-        (λ k l m. by-other k (λ s t. none_before f k m s (t ∙ sym here)))
+  module _ {start end : ℕ} (rows : RowsFrom file a (link_at session i).here.state start end) where
+    pub rows-start : {work : List ℕ} {g : Option Bool} → Passing (by_row file session a i) work g start work g
+    rows-start = passing-skip passing-start start (omega arith) (λ k l m. by-other k (none_before rows.starts k m))
 
-    pub rows_end : {r : ℕ} {work work' : List ℕ} {g g' : Growth}
-        → Passing (by_row file session a i) work g r work' g' → r ≤ row_count file
-        → ((k : ℕ) → r ≤ k → k < row_count file → (row_at file k).symbol ≡ a → (row_at file k).from ≡ q → ⊥)
-        → Gathers (by_rows file session a i) work g g' work'
+    pub rows-end : {work work' : List ℕ} {g g' : Option Bool}
+        → Passing (by_row file session a i) work g end work' g' → Gathers (by_rows file session a i) work g g' work'
     unfolding by_rows
-    rows_end p l h =
-        (passing-skip p (row_count file) l (λ k m n. by-other k (λ s t. h k m n s (t ∙ sym here)))).made
+    rows-end p =
+        (passing-skip p (row_count file) rows.ends.within (λ k l m. by-other k (rows_behind rows k l m))).made
 
 -- growing goes through all links, and through all rows for each
 module _ (file session : List ℕ) (a : ℕ) where
@@ -274,7 +175,7 @@ module _ (file session : List ℕ) (a : ℕ) where
       → Fitting (by_rows file session a i)
   grow-fitting i l f = fitting-one (by_rows file session a) i l (fitting-as f (sym grow-is))
 
-  pub grow-end : {n : ℕ} {work work' : List ℕ} {g g' : Growth}
+  pub grow-end : {n : ℕ} {work work' : List ℕ} {g g' : Option Bool}
       → Passing (by_rows file session a) work g n work' g' → n ≡ link_count session → Grown [] g work
       → Grown (grow (table_of file) (session_of session) a) g' work'
   grow-end p e h = rw (← grow-is, ← e) (p.made [] h)

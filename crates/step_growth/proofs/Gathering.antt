@@ -19,8 +19,7 @@ use Rattle.step_drafts.specs.Drafts.{drafts_of, Drafted, There, Placed, NoSlot a
 use Rattle.step_growth.specs.Growing.{Gathered, Grown, SomeGrown, Gathers, Fitting}
 use Rattle.step_drafts.specs.declared.keeping.Keeping.{Keeping}
 use Rattle.step_drafts.specs.declared.keeping.Keeping.TheVariants.{Same, Other, New, Full}
-use Rattle.step_growth.specs.declared.growth.Growth.{Growth}
-use Rattle.step_growth.specs.declared.growth.Growth.TheVariants.{Full as NoSlot, Made}
+use Rattle.std.specs.Prelude.{Option, Some, None}
 use Rattle.step_meaning.proofs.Keep.{keep_append, conflict-append, keep-rises}
 
 or-false : (b : Bool) → (b || false) ≡ b
@@ -79,26 +78,11 @@ module _ {made work : List _} {c : Bool} (g : Gathered made work c) where
         omega (arith, s.long)
 
 -- the two answers of growing
-made≢full : {c : Bool} → Made c ≡ NoSlot → ⊥
-made≢full e = subst (λ (r : Growth). is_made r) e tt
-  where
-    is_made : Growth → Type 0
-    is_made NoSlot = ⊥
-    is_made (Made c) = Unit {0}
+pub grown-made : {made : List Entry} {work : List ℕ} {c : Bool} → Gathered made work c → Grown made (Some c) work
+grown-made {c} g = record { made = λ d e. let same : c ≡ d = cc in rw (← same) g; full = λ e. absurd (cc) }
 
-pub grown-made : {made : List Entry} {work : List ℕ} {c : Bool} → Gathered made work c → Grown made (Made c) work
-grown-made {made} {work} {c} g = record { made = is; full = λ e. absurd (made≢full e) }
-  where
-    clash-of : Growth → Bool
-    clash-of NoSlot = false
-    clash-of (Made c) = c
-
-    is : (d : Bool) → Made c ≡ Made d → Gathered made work d
-    is d e = rw (← ap clash-of e) g
-
-pub grown-full : {made : List Entry} {work : List ℕ} → links_cap < length (keep [] made)
-    → Grown made NoSlot work
-grown-full l = record { made = λ c e. absurd (made≢full (sym e)); full = λ e. l }
+pub grown-full : {made : List Entry} {work : List ℕ} → links_cap < length (keep [] made) → Grown made None work
+grown-full l = record { made = λ c e. absurd (cc); full = λ e. l }
 
 -- where there was no slot left for some, there is none for more
 put-adds : (e : Entry) (l : List Entry) → length l ≤ length (put entry_key e l)
@@ -111,35 +95,40 @@ put-adds e (f ∷ l) = go (side (entry_key e) (entry_key f)) (put-adds e l)
     go same h = omega arith
     go upper h = omega arith
 
-pub full-more : {made work work' : List _} {g : Growth} (e : Entry) → g ≡ NoSlot → Grown made g work
-    → Grown (made ++ e ∷ []) NoSlot work'
-full-more {made} e f g =
-    let m = ap length (keep_append [] made (e ∷ [])) in
-    grown-full (omega (arith, g.full f, put-adds e (keep [] made)))
+keep-adds : (k more : List Entry) → length k ≤ length (keep k more)
+keep-adds k [] = omega arith
+keep-adds k (e ∷ more) = omega (arith, put-adds e k, keep-adds (put entry_key e k) more)
 
 -- nothing is drafted, nothing more is, and some after others are
-pub grown-none : {work : List ℕ} → Drafted work × (drafts_of work ≡ []) → Grown [] (Made false) work
+pub grown-none : {work : List ℕ} → Drafted work × (drafts_of work ≡ []) → Grown [] (Some false) work
 grown-none d = grown-made (record { drafts = d.0; are = d.1; odds = refl })
 
-module _ {work : List ℕ} {g : Growth} where
+module _ {work : List ℕ} {g : Option Bool} where
   pub gathers-none : Gathers [] work g g work
   gathers-none made h = rw (append-nil made) h
 
-  module _ {E work' : List _} {g' : Growth} (a : Gathers E work g g' work') where
+  module _ {E work' : List _} {g' : Option Bool} (a : Gathers E work g g' work') where
     pub gathers-as : {F : List Entry} → E ≡ F → Gathers F work g g' work'
     gathers-as e = rw (← e) a
 
-    gathers-both : {F work'' : List _} {g'' : Growth} → Gathers F work' g' g'' work''
+    gathers-both : {F work'' : List _} {g'' : Option Bool} → Gathers F work' g' g'' work''
         → Gathers (E ++ F) work g g'' work''
     gathers-both {F} b made h = rw (← append_assoc made E F) (b (made ++ E) (a made h))
 
+pub gathers-over : {E work work' : List _} {g : Option Bool} → Gathers E work g None work' → (F : List Entry)
+    → Gathers (E ++ F) work g None work'
+gathers-over {E} a F made h =
+    let m = ap length (keep_append [] (made ++ E) F) in
+    rw (← append_assoc made E F)
+    (grown-full (omega (arith, (a made h).full refl, keep-adds (keep [] (made ++ E)) F)))
+
 -- one more, whose link and piece are in other words what they were
-pub added : {work work' : List ℕ} {g r : Growth} {k l : Link} {v w : Word} → Gathers (entry k v ∷ []) work g r work'
+pub added : {work work' : List ℕ} {g r : Option Bool} {k l : Link} {v w : Word} → Gathers (entry k v ∷ []) work g r work'
     → k ≡ l → v ≡ w → Gathers (entry l w ∷ []) work g r work'
 added a e f = rw (← e, ← f) a
 
 -- what a function makes of each number below `n` was made, one after the other
-pub record Passing (f : ℕ → List Entry) (work : List ℕ) (g : Growth) (n : ℕ) (work' : List ℕ) (g' : Growth)
+pub record Passing (f : ℕ → List Entry) (work : List ℕ) (g : Option Bool) (n : ℕ) (work' : List ℕ) (g' : Option Bool)
     : Type 0 where
   pub made : Gathers (each f (up_to n)) work g g' work'
 
@@ -168,21 +157,33 @@ module _ (f : ℕ → List Entry) where
       go (inr b) ih = let e : n ≡ suc m = omega arith in rw e
 
 module _ {f : ℕ → List Entry} where
-  module _ {work : List ℕ} {g : Growth} where
+  module _ {work : List ℕ} {g : Option Bool} where
     pub passing-start : Passing f work g 0 work g
     passing-start = record { made = gathers-none }
 
-    module _ {n : ℕ} {work' : List ℕ} {g' : Growth} (p : Passing f work g n work' g') where
+    module _ {n : ℕ} {work' : List ℕ} {g' : Option Bool} (p : Passing f work g n work' g') where
       pub passing-ready : SomeGrown work g → SomeGrown work' g'
       passing-ready m = (m.0 ++ each f (up_to n), p.made m.0 m.1)
 
-      pub passing-next : {work'' : List ℕ} {g'' : Growth} → Gathers (f n) work' g' g'' work''
+      pub passing-next : {work'' : List ℕ} {g'' : Option Bool} → Gathers (f n) work' g' g'' work''
           → Passing f work g (n + 1) work'' g''
       passing-next b = record { made = rw (add-one n) (gathers-as (gathers-both p.made b) (each_more f n)) }
 
       pub passing-skip : (m : ℕ) → n ≤ m → ((k : ℕ) → n ≤ k → k < m → f k ≡ [])
           → Passing f work g m work' g'
       passing-skip m l h = record { made = gathers-as p.made (each_same f n m l h) }
+
+-- where those passed leave no slot, all do
+pub passing-over : {f : ℕ → List Entry} {work work' : List ℕ} {g : Option Bool} {n : ℕ}
+    → Passing f work g n work' None → (m : ℕ) → n ≤ m → Passing f work g m work' None
+passing-over {n = n} p zero l = let e : n ≡ 0 = omega arith in rw e at p
+passing-over {f = f} {work = work} {work' = work'} {g = g} {n = n} p (suc m) l =
+    go (below_or n (suc m)) (passing-over p m)
+  where
+    go : (n < suc m) ⊎ (suc m ≤ n) → (n ≤ m → Passing f work g m work' None) → Passing f work g (suc m) work' None
+    go (inl b) ih =
+        record { made = gathers-as (gathers-over (ih (omega arith)).made (f m)) (each_more f m) }
+    go (inr b) ih = let e : n ≡ suc m = omega arith in rw e at p
 
 pub fitting-as : {E F : List Entry} → Fitting E → E ≡ F → Fitting F
 fitting-as h e = rw (← e) h

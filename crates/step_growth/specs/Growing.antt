@@ -1,5 +1,5 @@
 -- How growing goes on: what was made so far is kept among the drafts, and whether two were at odds is known.
-use Rattle.std.specs.Prelude.{◌≡◌, Bool, cond, List, [], ◌++◌, ℕ, ◌<◌, ◌≤◌, length}
+use Rattle.std.specs.Prelude.{◌≡◌, Bool, cond, List, [], ◌++◌, ℕ, ◌<◌, ◌≤◌, length, Option, Some, None}
 use Rattle.meaning.specs.Answers.{links_cap}
 use Rattle.words.specs.Lists.{◌among◌, each, only, up_to}
 use Rattle.meaning.specs.Table.{Class}
@@ -12,8 +12,6 @@ use Rattle.step_meaning.specs.Stepping.{seat, has_foot, moved_to, fits_link, fol
 use Rattle.links.specs.Heads.{meant}
 use Rattle.links.specs.declared.Link.{Link as Five}
 use Rattle.step_drafts.specs.Drafts.{draft_room, drafts_of, Drafted, Plain, Clean}
-use Rattle.step_growth.specs.declared.growth.Growth.{Growth}
-use Rattle.step_growth.specs.declared.growth.Growth.TheVariants.{Full, Made as MadeOf}
 
 -- these entries were drafted one after the other, each link once; whether two were at odds
 pub record Gathered (made : List Entry) (work : List ℕ) (clash : Bool) : Type 0 where
@@ -22,16 +20,16 @@ pub record Gathered (made : List Entry) (work : List ℕ) (clash : Bool) : Type 
   pub odds : clash ≡ conflict [] made
 
 -- what growing answers, of entries made one after the other: all are kept, or there is no slot left
-pub record Grown (entries : List Entry) (r : Growth) (work : List ℕ) : Type 0 where
-  pub made : (clash : Bool) → r ≡ MadeOf clash → Gathered entries work clash
-  pub full : r ≡ Full → links_cap < length (keep [] entries)
+pub record Grown (entries : List Entry) (r : Option Bool) (work : List ℕ) : Type 0 where
+  pub made : (clash : Bool) → r ≡ Some clash → Gathered entries work clash
+  pub full : r ≡ None → links_cap < length (keep [] entries)
 
 -- some entries were made
-abbrev pub SomeGrown : List ℕ → Growth → Type 0
+abbrev pub SomeGrown : List ℕ → Option Bool → Type 0
 SomeGrown work g = (made : List Entry) × Grown made g work
 
 -- these entries were made after whatever was before
-abbrev pub Gathers : List Entry → List ℕ → Growth → Growth → List ℕ → Type 0
+abbrev pub Gathers : List Entry → List ℕ → Option Bool → Option Bool → List ℕ → Type 0
 Gathers more work g r work' = (made : List Entry) → Grown made g work → Grown (made ++ more) r work'
 
 -- a link by value, which stands for a link

@@ -12,9 +12,8 @@ use lib.Seq.{drop_at}
 use borrow.Author.Tests.{eqb-true, eqb-false, ltb-false}
 use Rattle.words.specs.Lists.{◌among◌}
 use Rattle.words.specs.Words.{Word, Bytes}
-use Rattle.numbers.specs.Numbers.{number_of}
-use Rattle.numbers.specs.declared.Answer.{Answer}
-use Rattle.numbers.specs.declared.Number.{Number}
+use Rattle.std.specs.Prelude.{Result}
+use Rattle.numbers.specs.declared.Refusal.{Refusal}
 use Rattle.numbers.proofs.Told.{answer-same}
 use Rattle.meaning.specs.Table.{Table, edition1, GoodTable}
 use Rattle.meaning.specs.Answers.{step_tests, finish_tests}
@@ -189,19 +188,9 @@ module _ (file session : List ℕ) (symbol : ℕ) (out : List ℕ) where
           )
 
   -- so are two answers
-  pub answered-unique : (r q : Answer) {s s' o o' : List ℕ} → Answered file session symbol out r s o
+  pub answered-unique : (r q : Result ℕ Refusal) {s s' o o' : List ℕ} → Answered file session symbol out r s o
       → Answered file session symbol out q s' o' → (r ≡ q) × (s ≡ s') × (o ≡ o')
-  answered-unique r q a b = let u = stepped-unique a b in (answer-same u.0 u.1, u.2, u.3)
-
--- an answer that is known by its name and count meets the contract of its number
-pub answered : {file session : List ℕ} {symbol : ℕ} {out session' out' : List ℕ} {r : Answer} {n : Number} {k : ℕ}
-    → (r.number ≡ n) × (r.count ≡ k) → Stepped file session symbol out (number_of n) k session' out'
-    → Answered file session symbol out r session' out'
-answered e s = rw (e.0, e.1) s
-
-pub ended : {file session out out' : List ℕ} {r : Answer} {n : Number} {k : ℕ} → (r.number ≡ n) × (r.count ≡ k)
-    → Finished file session out (number_of n) k out' → Ended file session out r out'
-ended e s = rw (e.0, e.1) s
+  answered-unique r q a b = let u = stepped-unique a b in (answer-same r q u.0 u.1, u.2, u.3)
 
 -- finish: two numbers that meet its contract on the same lists are the same; so are two answers
 pub finished-unique : (file session out : List ℕ) {n n' c c' : ℕ} {o o' : List ℕ} → Finished file session out n c o
@@ -225,11 +214,11 @@ finished-unique file session out {n} {n'} {c} {c'} {o} {o'} a b = go (eqb n 0) r
           a.written z ∙ ap (λ (c : ℕ). rest_on file session ++ drop c out) counts ∙ sym (b.written z'),
         )
 
-pub ended-unique : (file session out : List ℕ) (r q : Answer) {o o' : List ℕ} → Ended file session out r o
+pub ended-unique : (file session out : List ℕ) (r q : Result ℕ Refusal) {o o' : List ℕ} → Ended file session out r o
     → Ended file session out q o' → (r ≡ q) × (o ≡ o')
 ended-unique file session out r q a b =
     let u = finished-unique file session out a b in
-    (answer-same u.0 u.1, u.2)
+    (answer-same r q u.0 u.1, u.2)
 
 -- "asking twice gives the same": also where the second is lent what the first has written
 pub finish-again : (file session out : List ℕ) {n n' c c' : ℕ} {o o' : List ℕ} → Finished file session out n c o

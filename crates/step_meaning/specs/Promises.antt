@@ -1,9 +1,9 @@
 -- What step and finish promise, over the lists at entry and at exit: by numbers, and by the answer that gives them.
-use Rattle.std.specs.Prelude.{◌≡◌, ◌↔◌, List, ◌++◌, ℕ, length, drop}
+use Rattle.std.specs.Prelude.{◌≡◌, ◌↔◌, List, ◌++◌, ℕ, length, drop, Result}
 use Rattle.words.specs.Lists.{◌among◌}
 use Rattle.words.specs.Words.{Word, Bytes, common}
-use Rattle.numbers.specs.Numbers.{number_of}
-use Rattle.numbers.specs.declared.Answer.{Answer}
+use Rattle.numbers.specs.Numbers.{number_of, count_of}
+use Rattle.numbers.specs.declared.Refusal.{Refusal}
 use Rattle.meaning.specs.Living.{Place}
 use Rattle.meaning.specs.Answers.{Moment, step_number, sends, follows, accepted, finish_number}
 use Rattle.table.specs.File.{table_of}
@@ -51,9 +51,9 @@ pub record Stepped (file session : List ℕ) (symbol : ℕ) (out : List ℕ) (nu
       → (p among trails (session_of session')) ↔ (p among (follows_on file session symbol).waiting)
 
 -- the same of an answer
-abbrev pub Answered : List ℕ → List ℕ → ℕ → List ℕ → Answer → List ℕ → List ℕ → Type 0
+abbrev pub Answered : List ℕ → List ℕ → ℕ → List ℕ → Result ℕ Refusal → List ℕ → List ℕ → Type 0
 Answered file session symbol out r session' out' =
-    Stepped file session symbol out (number_of r.number) r.count session' out'
+    Stepped file session symbol out (number_of r) (count_of r) session' out'
 
 -- the number of finish by the rules in a file, of the session in some bytes
 abbrev pub finish_on : List ℕ → List ℕ → ℕ → ℕ
@@ -71,5 +71,5 @@ pub record Finished (file session out : List ℕ) (number count : ℕ) (out' : L
   pub written : number ≡ 0 → out' ≡ rest_on file session ++ drop count out
 
 -- the same of an answer
-abbrev pub Ended : List ℕ → List ℕ → List ℕ → Answer → List ℕ → Type 0
-Ended file session out r out' = Finished file session out (number_of r.number) r.count out'
+abbrev pub Ended : List ℕ → List ℕ → List ℕ → Result ℕ Refusal → List ℕ → Type 0
+Ended file session out r out' = Finished file session out (number_of r) (count_of r) out'

@@ -8,21 +8,18 @@ use native.Mathlib.Omega.{arith}
 use lib.Dec.{eqb}
 use borrow.Author.Tests.{eqb-true, eqb-false}
 use mathlib.Mathlib.Logic.Function.Defs.{LeftInverse-Injective}
-use Rattle.numbers.specs.declared.Answer.{Answer}
-use Rattle.numbers.proofs.Told.{answer-same}
+use Rattle.std.specs.Prelude.{Result, Ok, Err, ⊤}
+use Rattle.numbers.specs.declared.Refusal.{Refusal}
+use Rattle.numbers.proofs.Told.{number_same, refusal-some}
 use Rattle.meaning.specs.Table.{Class as Kind, unused, call, return, internal}
 use Rattle.table.specs.Good.{first_edition, GoodFile}
 use Rattle.table.specs.Calls.{Judged, Checked, meant, FirstRow, RowsFrom}
 use Rattle.table.specs.declared.read.Class.{Class}
 use Rattle.table.specs.declared.read.Class.TheVariants.{Unused, Call, Return, Internal}
-use Rattle.table.specs.declared.read.Rows.{Rows}
 
--- a file is judged by whether it is good,
+-- a good file has number 0,
 pub judged-good : {file : List ℕ} → GoodFile first_edition file → Judged file 0
 judged-good g = record { good = (λ e. g, λ h. refl); bad = (λ e. absurd (omega arith), λ f. absurd (f g)) }
-
-pub judged-bad : {file : List ℕ} → (GoodFile first_edition file → ⊥) → Judged file 1
-judged-bad f = record { good = (λ e. absurd (omega arith), λ g. absurd (f g)); bad = (λ e. f, λ h. refl) }
 
 -- and is not where its number is not 0
 pub judged-faulty : {file : List ℕ} {n : ℕ} → Judged file n → (n ≡ 0 → ⊥) → GoodFile first_edition file → ⊥
@@ -38,8 +35,11 @@ judged-unique {file} {m} {n} a b = go (eqb m 0) refl
         let bad : GoodFile first_edition file → ⊥ = λ g. eqb-false m 0 e (a.good.1 g) in
         a.bad.1 bad ∙ sym (b.bad.1 bad)
 
-pub checked-unique : (file : List ℕ) (r q : Answer) → Checked file r → Checked file q → r ≡ q
-checked-unique file r q c d = answer-same (judged-unique c.0 d.0) (c.1 ∙ sym d.1)
+pub checked-unique : (file : List ℕ) (r q : Result ⊤ Refusal) → Checked file r → Checked file q → r ≡ q
+checked-unique file (Ok x) (Ok y) c d = refl
+checked-unique file (Ok x) (Err q) c d = absurd (refusal-some q (sym (judged-unique c d)))
+checked-unique file (Err r) (Ok y) c d = absurd (refusal-some r (judged-unique c d))
+checked-unique file (Err r) (Err q) c d = λ i. Err (number_same r q (judged-unique c d) i)
 
 -- so are two answers of `class_of`,
 pub meant-unique : (r q : Class) → meant r ≡ meant q → r ≡ q
@@ -69,10 +69,9 @@ first-row-unique file symbol from r q f g =
     apart {r} f g l = f.onward r (omega arith) (let w = g.within in omega arith) (g.before r l)
 
 -- and two of `rows_from`
-pub rows-from-unique : (file : List ℕ) (symbol from : ℕ) (r q : Rows) → RowsFrom file symbol from r
-    → RowsFrom file symbol from q → r ≡ q
-rows-from-unique file symbol from r q f g i =
-    record {
-      first = first-row-unique file symbol from r.first q.first f.starts g.starts i;
-      end = first-row-unique file symbol (from + 1) r.end q.end f.ends g.ends i;
-    }
+pub rows-from-unique : (file : List ℕ) (symbol from : ℕ) {start start' end end' : ℕ}
+    → RowsFrom file symbol from start end → RowsFrom file symbol from start' end' → (start ≡ start') × (end ≡ end')
+rows-from-unique file symbol from f g = (
+  first-row-unique file symbol from _ _ f.starts g.starts,
+  first-row-unique file symbol (from + 1) _ _ f.ends g.ends,
+)

@@ -1,24 +1,23 @@
 -- What the functions of this crate answer and ask, beyond the definitions of the file.
-use Rattle.std.specs.Prelude.{◌≡◌, ◌↔◌, List, ℕ, ◌+◌, ◌*◌, ◌<◌, ◌≤◌, length}
+use Rattle.std.specs.Prelude.{◌≡◌, ◌↔◌, List, ℕ, ◌+◌, ◌*◌, ◌<◌, ◌≤◌, length, Result, ⊤}
 use Rattle.words.specs.LittleEndian.{byte, two}
 use Rattle.numbers.specs.Numbers.{number_of}
-use Rattle.numbers.specs.declared.Answer.{Answer}
+use Rattle.numbers.specs.declared.Refusal.{Refusal}
 use Rattle.meaning.specs.Parts.{row_size}
 use Rattle.meaning.specs.Table.{Class as Kind, unused, call, return, internal, Row}
 use Rattle.table.specs.File.{row_count, row_start, words_start, row_at}
 use Rattle.table.specs.Good.{first_edition, GoodFile}
 use Rattle.table.specs.declared.read.Class.{Class}
 use Rattle.table.specs.declared.read.Class.TheVariants.{Unused, Call, Return, Internal}
-use Rattle.table.specs.declared.read.Rows.{Rows}
 
 -- 1 BadTable: "the file breaks a rule above"; "Check and begin: 1"
 pub record Judged (file : List ℕ) (number : ℕ) : Type 0 where
   pub good : (number ≡ 0) ↔ GoodFile first_edition file
   pub bad : (number ≡ 1) ↔ (GoodFile first_edition file → ⊥)
 
--- "Check and begin: 1": what an answer of `check` says; it writes nothing
-abbrev pub Checked : List ℕ → Answer → Type 0
-Checked file r = Judged file (number_of r.number) × (r.count ≡ 0)
+-- "Check and begin: 1": what an answer of `check` says; it has no count, for it writes nothing
+abbrev pub Checked : List ℕ → Result ⊤ Refusal → Type 0
+Checked file r = Judged file (number_of r)
 
 -- the class that a variant of the code stands for
 abbrev pub meant : Class → Kind
@@ -39,9 +38,9 @@ pub record FirstRow (file : List ℕ) (symbol from r : ℕ) : Type 0 where
   pub onward : (k : ℕ) → r ≤ k → k < row_count file → RowBefore (row_at file k) symbol from → ⊥
 
 -- the rows of a symbol from a state: from the first of them on, up to where those from the next state would stand
-pub record RowsFrom (file : List ℕ) (symbol from : ℕ) (r : Rows) : Type 0 where
-  pub starts : FirstRow file symbol from r.first
-  pub ends : FirstRow file symbol (from + 1) r.end
+pub record RowsFrom (file : List ℕ) (symbol from start end : ℕ) : Type 0 where
+  pub starts : FirstRow file symbol from start
+  pub ends : FirstRow file symbol (from + 1) end
 
 -- what functions inside ask: that a row stands in the file
 abbrev pub RowIn : List ℕ → ℕ → Type 0

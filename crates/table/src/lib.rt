@@ -1,6 +1,6 @@
 // The rule file: what a good one says. Nothing outside the lent file is read.
 
-#![tactic(auto)]
+#![tactic(auto, unfolding(crate::specs::File::table_of))]
 
 mod parts;
 mod read;
@@ -11,7 +11,6 @@ pub use parts::{
     WORDS_LENGTH_AT,
 };
 pub use read::{
-    Class, Rows, class_of, depth_cap, final_set, first_row, markers, row_class, row_count,
-    row_from, row_marker, row_symbol, row_to, row_word, rows_from, starting_set, states,
-    waiting_cap,
+    Class, class_of, depth_cap, final_set, first_row, markers, row_class, row_count, row_from,
+    row_marker, row_symbol, row_to, row_word, rows_from, starting_set, states, waiting_cap,
 };

@@ -4,12 +4,14 @@ ghost use Rattle.words.specs.Lists.{Exact};
 ghost use Rattle.table.specs.File.{row_count, row_at, word_of, table_of};
 ghost use Rattle.sets.specs.Sets.{members};
 ghost use Rattle.table.specs.Good.{first_edition, GoodFile};
+ghost use Rattle.meaning.specs.Table.{class_of as class_of_number};
 ghost use Rattle.table.specs.Calls.{meant, WordIn, RowBefore, FirstRow, RowsFrom};
 
 use crate::parts::{
     CLASSES_START, FINAL_START, ROW_SIZE, ROWS_LENGTH_AT, ROWS_START, STARTING_START,
 };
-use words::{load_eight, load_two, wide};
+use std::ops::Range;
+use words::{first_not, load_eight, load_two, wide};
 
 pub fn states(file: &[u8]) -> usize
     requires { GoodFile first_edition file.now }
@@ -53,7 +55,7 @@ pub fn final_set(file: &[u8]) -> u64
     load_eight(file, FINAL_START)
 }
 
-#[derive(Clone, Copy)]
+#[derive(Clone, Copy, PartialEq, Eq)]
 pub enum Class {
     Unused,
     Call,
@@ -61,21 +63,25 @@ pub enum Class {
     Internal,
 }
 
+// "0 unused, 1 call, 2 return, 3 internal": no other number stands in a good file.
+impl From<u8> for Class {
+    ghost from_gives = { λ number class. meant class ≡ class_of_number number };
+
+    fn from(number: u8) -> Class {
+        match number {
+            0 => Class::Unused,
+            1 => Class::Call,
+            2 => Class::Return,
+            _ => Class::Internal,
+        }
+    }
+}
+
 pub fn class_of(file: &[u8], symbol: u8) -> Class
     requires { GoodFile first_edition file.now }
     ensures { meant result ≡ (table_of file.now).class symbol }
 {
-    let class = wide(file[CLASSES_START + wide(symbol)]);
-    if class == 0 {
-        return Class::Unused;
-    }
-    if class == 1 {
-        return Class::Call;
-    }
-    if class == 2 {
-        return Class::Return;
-    }
-    Class::Internal
+    Class::from(file[CLASSES_START + wide(symbol)])
 }
 
 pub fn row_count(file: &[u8]) -> usize
@@ -97,7 +103,7 @@ pub fn row_class(file: &[u8], i: usize) -> Class
     requires { (GoodFile first_edition file.now) × (i < row_count file.now) }
     ensures { meant result ≡ (table_of file.now).class (row_at file.now i).symbol }
 {
-    class_of(file, file[300 + 8 * i])
+    class_of(file, file[ROWS_START + ROW_SIZE * i])
 }
 
 pub fn row_from(file: &[u8], i: usize) -> usize
@@ -151,41 +157,20 @@ pub fn first_row(file: &[u8], symbol: u8, from: usize) -> usize
     requires { GoodFile first_edition file.now }
     ensures { FirstRow file.now symbol from result }
 {
-    let mut low = 0;
-    let mut high = row_count(file);
-    while low < high {
-        let middle = low + (high - low) / 2;
-        if row_before(file, middle, symbol, from) {
-            low = middle + 1;
-        } else {
-            high = middle;
-        }
-    }
-    low
+    first_not(row_count(file), |i| row_before(file, i, symbol, from))
 }
 
-// The rows of a symbol from a state, which stand side by side: those from `first` on that are below `end`.
-#[derive(Clone, Copy)]
-pub struct Rows {
-    pub first: usize,
-    pub end: usize,
-}
-
-pub fn rows_from(file: &[u8], symbol: u8, from: usize) -> Rows
+// The rows of a symbol from a state, which stand side by side.
+pub fn rows_from(file: &[u8], symbol: u8, from: usize) -> Range<usize>
     requires { GoodFile first_edition file.now }
-    ensures { RowsFrom file.now symbol from result }
+    ensures { RowsFrom file.now symbol from result.start result.end }
 {
+    let start = first_row(file, symbol, from);
     let n = row_count(file);
-    let first = first_row(file, symbol, from);
-    let mut end = first;
-    while end < n {
-        if row_symbol(file, end) != wide(symbol) {
-            return Rows { first, end };
+    for end in start..n {
+        if row_symbol(file, end) != wide(symbol) || row_from(file, end) != from {
+            return start..end;
         }
-        if row_from(file, end) != from {
-            return Rows { first, end };
-        }
-        end += 1;
     }
-    Rows { first, end }
+    start..n
 }

@@ -5,37 +5,21 @@
 mod parts;
 mod rows;
 
-ghost use Rattle.numbers.specs.Numbers.{number_of};
-ghost use Rattle.table.specs.Calls.{Judged, Checked};
+ghost use Rattle.table.specs.Calls.{Checked};
 
-use numbers::{Answer, Number};
+use numbers::Refusal;
 
-// Whether a file keeps every rule.
-pub fn check(file: &[u8]) -> Answer
+// Whether a file keeps every rule. The parts are looked at in file order.
+pub fn check(file: &[u8]) -> Result<(), Refusal>
     ensures { Checked file.now result }
 {
-    let number = judge(file);
-    Answer { number, count: 0 }
-}
-
-// The number of the first fault. The parts are looked at in file order.
-fn judge(file: &[u8]) -> Number
-    ensures { Judged file.now (number_of result) }
-{
-    if !parts::head(file) {
-        return Number::BadTable;
+    if parts::head(file)
+        && parts::contents(file)
+        && parts::classes(file)
+        && parts::sets(file)
+        && rows::rows(file)
+    {
+        return Ok(());
     }
-    if !parts::contents(file) {
-        return Number::BadTable;
-    }
-    if !parts::classes(file) {
-        return Number::BadTable;
-    }
-    if !parts::sets(file) {
-        return Number::BadTable;
-    }
-    if !rows::rows(file) {
-        return Number::BadTable;
-    }
-    Number::Taken
+    Err(Refusal::BadTable)
 }

@@ -29,36 +29,13 @@ const MOST_WORDS: usize = 4096;
 pub fn head(file: &[u8]) -> bool
     ensures { Exact (Head first_edition file.now) result }
 {
-    if file.len() < HEAD_SIZE {
-        return false;
-    }
-    if wide(file[0]) != EDITION {
-        return false;
-    }
-    let states = wide(file[1]);
-    if states < 1 {
-        return false;
-    }
-    if MOST_STATES < states {
-        return false;
-    }
-    if MOST_MARKERS < wide(file[2]) {
-        return false;
-    }
-    let depth = wide(file[3]);
-    if depth < 1 {
-        return false;
-    }
-    if MOST_DEPTH < depth {
-        return false;
-    }
-    if MOST_WAITING < load_two(file, 4) {
-        return false;
-    }
-    if load_two(file, 6) != file.len() {
-        return false;
-    }
-    true
+    file.len() >= HEAD_SIZE
+        && wide(file[0]) == EDITION
+        && (1..=MOST_STATES).contains(&wide(file[1]))
+        && wide(file[2]) <= MOST_MARKERS
+        && (1..=MOST_DEPTH).contains(&wide(file[3]))
+        && load_two(file, 4) <= MOST_WAITING
+        && load_two(file, 6) == file.len()
 }
 
 // Whether the entry at `at` has this start and this length.
@@ -66,13 +43,7 @@ fn entry(file: &[u8], at: usize, start: usize, size: usize) -> bool
     requires { at + 4 ≤ length file.now }
     ensures { Exact (FileEntry file.now at start size) result }
 {
-    if load_two(file, at) != start {
-        return false;
-    }
-    if load_two(file, at + 2) != size {
-        return false;
-    }
-    true
+    load_two(file, at) == start && load_two(file, at + 2) == size
 }
 
 pub fn contents(file: &[u8]) -> bool
@@ -81,33 +52,16 @@ pub fn contents(file: &[u8]) -> bool
     if file.len() < CLASSES_START {
         return false;
     }
-    if !entry(file, CLASSES_ENTRY, CLASSES_START, CLASS_COUNT) {
-        return false;
-    }
-    if !entry(file, STARTING_ENTRY, STARTING_START, SET_SIZE) {
-        return false;
-    }
-    if !entry(file, FINAL_ENTRY, FINAL_START, SET_SIZE) {
-        return false;
-    }
     let rows = load_two(file, ROWS_LENGTH_AT) / ROW_SIZE;
-    if MOST_ROWS < rows {
-        return false;
-    }
-    if !entry(file, ROWS_ENTRY, ROWS_START, ROW_SIZE * rows) {
-        return false;
-    }
     let bytes = load_two(file, WORDS_LENGTH_AT);
-    if MOST_WORDS < bytes {
-        return false;
-    }
-    if !entry(file, WORDS_ENTRY, ROWS_START + ROW_SIZE * rows, bytes) {
-        return false;
-    }
-    if ROWS_START + ROW_SIZE * rows + bytes != file.len() {
-        return false;
-    }
-    true
+    entry(file, CLASSES_ENTRY, CLASSES_START, CLASS_COUNT)
+        && entry(file, STARTING_ENTRY, STARTING_START, SET_SIZE)
+        && entry(file, FINAL_ENTRY, FINAL_START, SET_SIZE)
+        && rows <= MOST_ROWS
+        && entry(file, ROWS_ENTRY, ROWS_START, ROW_SIZE * rows)
+        && bytes <= MOST_WORDS
+        && entry(file, WORDS_ENTRY, ROWS_START + ROW_SIZE * rows, bytes)
+        && ROWS_START + ROW_SIZE * rows + bytes == file.len()
 }
 
 // No class has a bit above the lowest two exactly when all together have none.
@@ -122,10 +76,7 @@ pub fn classes(file: &[u8]) -> bool
 fn within(set: u64, states: usize) -> bool
     ensures { Exact (set < 2 ^ states) result }
 {
-    if 64 <= states {
-        return true;
-    }
-    set >> states == 0
+    64 <= states || set >> states == 0
 }
 
 pub fn sets(file: &[u8]) -> bool
@@ -134,14 +85,5 @@ pub fn sets(file: &[u8]) -> bool
 {
     let states = wide(file[1]);
     let starting = load_eight(file, STARTING_START);
-    if starting == 0 {
-        return false;
-    }
-    if !within(starting, states) {
-        return false;
-    }
-    if !within(load_eight(file, FINAL_START), states) {
-        return false;
-    }
-    true
+    starting != 0 && within(starting, states) && within(load_eight(file, FINAL_START), states)
 }

@@ -1,28 +1,25 @@
 // The rows of a rule file: whether each fits, and whether they rise.
 ghost use Rattle.std.specs.Prelude.{◌+◌};
 ghost use Rattle.words.specs.Lists.{Exact};
-ghost use Rattle.meaning.specs.Table.{class_of, MarkFits};
+ghost use Rattle.meaning.specs.Table.{MarkFits};
 ghost use Rattle.table.specs.File.{row_at};
 ghost use Rattle.table.specs.Good.{first_edition, Contents, MarkAt, RowFits, Rising, Rows};
-ghost use Rattle.table.specs.Calls.{RowIn, WordIn, Headed};
+ghost use Rattle.table.specs.Calls.{meant, RowIn, WordIn, Headed};
 
-use table::{CLASSES_START, ROW_SIZE, ROWS_LENGTH_AT, ROWS_START, WORDS_LENGTH_AT, row_word};
-use words::{Order, compare, load_two, wide};
+use table::{
+    CLASSES_START, Class, ROW_SIZE, ROWS_LENGTH_AT, ROWS_START, WORDS_LENGTH_AT, row_word,
+};
+use words::{compare, load_two, wide};
 
 // Whether a marker suits a class.
-fn mark_suits(class: usize, markers: usize, marker: usize) -> bool
-    ensures { Exact (MarkFits (class_of class) markers marker) result }
+fn mark_suits(class: Class, markers: usize, marker: usize) -> bool
+    ensures { Exact (MarkFits (meant class) markers marker) result }
 {
-    if class == 0 {
-        return false;
+    match class {
+        Class::Unused => false,
+        Class::Call | Class::Return => 0 < marker && marker <= markers,
+        Class::Internal => marker == 0,
     }
-    if 2 < class {
-        return marker == 0;
-    }
-    if marker == 0 {
-        return false;
-    }
-    marker <= markers
 }
 
 // Whether a row's marker suits the class of its symbol.
@@ -32,7 +29,7 @@ fn mark_fits(file: &[u8], i: usize) -> bool
 {
     let at = ROWS_START + ROW_SIZE * i;
     let symbol = wide(file[at]);
-    let class = wide(file[CLASSES_START + symbol]);
+    let class = Class::from(file[CLASSES_START + symbol]);
     mark_suits(class, wide(file[2]), wide(file[at + 3]))
 }
 
@@ -42,23 +39,12 @@ fn row_fits(file: &[u8], i: usize) -> bool
     ensures { Exact (RowFits file.now i) result }
 {
     let at = ROWS_START + ROW_SIZE * i;
-    if !mark_fits(file, i) {
-        return false;
-    }
     let states = wide(file[1]);
-    if states <= wide(file[at + 1]) {
-        return false;
-    }
-    if states <= wide(file[at + 2]) {
-        return false;
-    }
-    if load_two(file, WORDS_LENGTH_AT) < load_two(file, at + 4) + wide(file[at + 6]) {
-        return false;
-    }
-    if wide(file[at + 7]) != 0 {
-        return false;
-    }
-    true
+    mark_fits(file, i)
+        && wide(file[at + 1]) < states
+        && wide(file[at + 2]) < states
+        && load_two(file, at + 4) + wide(file[at + 6]) <= load_two(file, WORDS_LENGTH_AT)
+        && wide(file[at + 7]) == 0
 }
 
 // A row's symbol, from, marker and to as one number, which rises as they do.
@@ -77,17 +63,7 @@ fn rises(file: &[u8], i: usize, head: usize, next: usize) -> bool
     requires word_in_2 { (WordIn file.now (i + 1)) × (Headed (row_at file.now (i + 1)) next) }
     ensures { Exact (Rising file.now i) result }
 {
-    if head < next {
-        return true;
-    }
-    if next < head {
-        return false;
-    }
-    match compare(row_word(file, i), row_word(file, i + 1)) {
-        Order::Before => true,
-        Order::Same => false,
-        Order::After => false,
-    }
+    head < next || (head == next && compare(row_word(file, i), row_word(file, i + 1)).is_lt())
 }
 
 // Whether all rows fit and each stands above the one before it.
@@ -103,18 +79,15 @@ pub fn rows(file: &[u8]) -> bool
         return false;
     }
     let mut last = row_head(file, 0);
-    let mut i = 0;
-    while i + 1 < n {
-        let j = i + 1;
-        if !row_fits(file, j) {
+    for i in 0..n - 1 {
+        if !row_fits(file, i + 1) {
             return false;
         }
-        let head = row_head(file, j);
-        if !rises(file, i, last, head) {
+        let next = row_head(file, i + 1);
+        if !rises(file, i, last, next) {
             return false;
         }
-        last = head;
-        i = j;
+        last = next;
     }
     true
 }

@@ -1,37 +1,23 @@
 -- Words taken together by or: what they make is small exactly when each number is. Assumes nothing.
-use mathlib.Core.Path.{◌≡◌, refl, sym, ◌∙◌}
+use mathlib.Core.Path.{◌≡◌, refl}
 use mathlib.Core.Logic.{◌↔◌}
 use mathlib.Core.List.{[], ◌∷◌}
 use Prim.Native.Nat.{ℕ, zero, suc, ◌+◌, ◌≤◌, ◌<◌, ◌^◌}
-use native.Mathlib.Numerals.{add-one}
 use native.Mathlib.Omega.{arith}
 use lib.Bits.{bit_or, or_lt, and_le_l, and_le_r, or_add_and}
 use lib.Dec.{ltb}
 use lib.Pow.{pow_pos}
-use lib.ListN.{length, get_or, take, drop, drop_of_length-le, length-take, length-drop}
-use lib.Seq.{drop-cons, get_or-take, get_or-drop}
+use lib.ListN.{length, get_or, take, drop, length-take, length-drop}
+use lib.Seq.{get_or-take, get_or-drop}
+use Rattle.std.specs.List.{fold}
 use Rattle.words.specs.Lists.{Exact}
 use Rattle.words.specs.Words.{Word}
 use Rattle.words.specs.Together.{together}
 use Rattle.words.proofs.Exact.{exact-as, ltb-exact}
 
--- what is left from `i` on, taken together with what was passed, makes what the whole makes
-pub record Passed (w : Word) (all i : ℕ) : Type 0 where
-  pub within : i ≤ length w
-  pub whole : together all (drop i w) ≡ together 0 w
-
-pub passed_start : (w : Word) → Passed w 0 0
-passed_start w = record { within = omega arith; whole = refl }
-
-module _ {w : Word} {all i : ℕ} (p : Passed w all i) where
-  pub passed-next : i < length w → Passed w (bit_or all (get_or w i 0)) (i + 1)
-  passed-next lt = record { within = omega arith; whole = sym turn ∙ p.whole }
-    where
-      turn : together all (drop i w) ≡ together (bit_or all (get_or w i 0)) (drop (i + 1) w)
-      turn = rw (add-one, drop-cons w i 0)
-
-  pub passed-end : length w ≤ i → all ≡ together 0 w
-  passed-end le = rw (drop_of_length-le w le) at p.whole
+pub fold-together : (all : ℕ) (w : Word) → fold bit_or all w ≡ together all w
+fold-together all [] = refl
+fold-together all (x ∷ w) = fold-together (bit_or all x) w
 
 -- small is: below a power of 2
 pub record AllBelow (m : ℕ) (w : Word) : Type 0 where

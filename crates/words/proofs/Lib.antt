@@ -1,6 +1,6 @@
 -- What follows of words, one family of facts a file: what is among lists; the longest common beginning; byte order and
 -- rising lists; the only rising list with given members; what tests say exactly; what bytes make together; bytes that
--- are all 0; parts written into a list, one behind the other; what `compare`, `common_length` and `same` find.
+-- are all 0; parts written into a list, one behind the other; what `compare` and `common_length` find.
 pub mod Lists
 pub mod Each
 pub mod Common
@@ -14,4 +14,3 @@ pub mod Puts
 pub mod Shifted
 pub mod Calls
 pub mod Agreed
-mod Equal

@@ -1,12 +1,11 @@
--- What text put into a text leaves: nothing, a byte, bytes, and one text behind another. Assumes nothing.
-use mathlib.Core.Path.{◌≡◌, refl, sym, ◌∙◌, ap}
-use mathlib.Core.List.{List, [], ◌∷◌, ◌++◌, append_assoc, append-nil}
+-- What text put into a text leaves: nothing, and one text behind another. Assumes nothing.
+use mathlib.Core.Path.{◌≡◌, sym, ◌∙◌, ap}
+use mathlib.Core.List.{List, [], ◌++◌, append_assoc, append-nil}
 use Prim.Native.Nat.{ℕ, ◌+◌, ◌≤◌}
 use native.Mathlib.Nat.{add-zero}
-use native.Mathlib.Numerals.{add-one}
 use native.Mathlib.Omega.{arith}
-use lib.ListN.{length, take, drop, set, length-append, length-drop, take-append-drop}
-use lib.Seq.{append_snoc, length-take-le, take-length, take_at, drop-append-add, drop-drop, set_split, paste}
+use lib.ListN.{length, take, drop, length-append, length-drop, take-append-drop}
+use lib.Seq.{length-take-le, take_at, drop-append-add, drop-drop}
 use Rattle.words.specs.Words.{Word}
 use Rattle.words.specs.Calls.{Room, Appended}
 
@@ -17,20 +16,6 @@ appended-none text at le =
       within = le;
       is = sym (rw append-nil (take-append-drop at text));
     }
-
-pub appended-byte : (text : List ℕ) (at b : ℕ) → Room text at (b ∷ [])
-    → Appended text at (b ∷ []) (at + 1) (set text at b)
-appended-byte text at b room =
-    record {
-      next = refl;
-      within = room.fits;
-      is = rw (add-one, append_snoc) (set_split text at b (omega (arith, room.fits)));
-    }
-
--- as `words::copy` leaves them
-pub appended-bytes : (text : List ℕ) (at : ℕ) (w : Word) {text' : List ℕ} → Room text at w
-    → text' ≡ paste text at w (length w) → Appended text at w (at + length w) text'
-appended-bytes text at w room e = record { next = refl; within = room.fits; is = rw take-length at e }
 
 -- where a text has room, what it begins with has
 pub room-front : {text : List ℕ} {at : ℕ} (v w : Word) → Room text at (v ++ w) → Room text at v

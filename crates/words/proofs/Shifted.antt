@@ -1,62 +1,13 @@
--- A byte inserted into a list: what the loop leaves that makes room for it, where each byte comes from, and that there
--- is one such list. Assumes nothing.
+-- A byte inserted into a list: where each byte comes from, and that there is one such list. Assumes nothing.
 use mathlib.Core.Path.{◌≡◌, refl, sym, ◌∙◌, ap}
 use mathlib.Core.Logic.{◌⊎◌, inl, inr}
 use mathlib.Core.List.{List}
 use Prim.Native.Nat.{ℕ, ◌+◌, ◌-◌, ◌<◌, ◌≤◌}
 use native.Mathlib.Omega.{arith}
-use lib.ListN.{length, get_or, take, set, length-set, length-take}
-use lib.Seq.{get_or-set_same, get_or-set_other, get_or-take, ext_get_or}
+use lib.ListN.{get_or, take, length-take}
+use lib.Seq.{get_or-take, ext_get_or}
 use Rattle.words.specs.Calls.{Inserted}
 use Rattle.words.proofs.Lists.{below_or}
-
--- those from a place on, of the first `count`, stand one later as well
-pub record Shifted (l : List ℕ) (count at : ℕ) (l' : List ℕ) : Type 0 where
-  pub whole : length l' ≡ length l
-  pub before : (i : ℕ) → i < at → get_or l' i 0 ≡ get_or l i 0
-  pub after : (i : ℕ) → at ≤ i → i < count → get_or l' (i + 1) 0 ≡ get_or l i 0
-  pub behind : (i : ℕ) → count < i → get_or l' i 0 ≡ get_or l i 0
-
-pub shifted_none : (l : List ℕ) (count : ℕ) → Shifted l count count l
-shifted_none l count =
-    record { whole = refl; before = λ i h. refl; after = λ i g h. absurd (omega arith); behind = λ i h. refl }
-
-module _ {l l' : List ℕ} {count at : ℕ} (s : Shifted l count at l') where
-  pub shifted-more : 0 < at → at ≤ count → at < length l → Shifted l count (at - 1) (set l' at (get_or l' (at - 1) 0))
-  shifted-more pos le lt =
-      record {
-        whole = length-set l' at (get_or l' (at - 1) 0) ∙ s.whole;
-        before = λ i h. other i (λ e. omega arith) ∙ s.before i (omega arith);
-        after = λ i g h. after i g h (below_or i at);
-        behind = λ i h. other i (λ e. omega arith) ∙ s.behind i h;
-      }
-    where
-      other : (i : ℕ) → (i ≡ at → ⊥) → get_or (set l' at (get_or l' (at - 1) 0)) i 0 ≡ get_or l' i 0
-      other i n = get_or-set_other l' at i (get_or l' (at - 1) 0) 0 n
-
-      after : (i : ℕ) → at - 1 ≤ i → i < count → (i < at) ⊎ (at ≤ i)
-          → get_or (set l' at (get_or l' (at - 1) 0)) (i + 1) 0 ≡ get_or l i 0
-      after i g h (inr k) = other (i + 1) (λ e. omega arith) ∙ s.after i k h
-      after i g h (inl k) =
-          let e : i + 1 ≡ at = omega arith in
-          let f : at - 1 ≡ i = omega arith in
-          ap (λ (j : ℕ). get_or (set l' at (get_or l' (at - 1) 0)) j 0) e
-          ∙ get_or-set_same l' at (get_or l' (at - 1) 0) 0 (omega (arith, s.whole))
-          ∙ ap (λ (j : ℕ). get_or l' j 0) f ∙ s.before i k
-
-  pub shifted-inserted : (place byte : ℕ) → place ≤ at → at ≤ place → place ≤ count → place < length l
-      → Inserted l count place byte (set l' place byte)
-  shifted-inserted place byte le ge low lt =
-      record {
-        whole = length-set l' place byte ∙ s.whole;
-        before = λ i h. other i (λ e. omega arith) ∙ s.before i (omega arith);
-        here = get_or-set_same l' place byte 0 (omega (arith, s.whole));
-        after = λ i g h. other (i + 1) (λ e. omega arith) ∙ s.after i (omega arith) h;
-        behind = λ i h. other i (λ e. omega arith) ∙ s.behind i h;
-      }
-    where
-      other : (i : ℕ) → (i ≡ place → ⊥) → get_or (set l' place byte) i 0 ≡ get_or l' i 0
-      other i n = get_or-set_other l' place i byte 0 n
 
 -- where the byte at a place comes from
 pub data Came (l : List ℕ) (count at byte : ℕ) (l' : List ℕ) (j : ℕ) : Type 0 where

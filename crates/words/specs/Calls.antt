@@ -2,14 +2,14 @@
 use Rattle.std.specs.Prelude.{◌≡◌, List, ◌++◌, ℕ, ◌+◌, ◌<◌, ◌≤◌, length, get_or, take, drop}
 use Rattle.words.specs.Words.{Word}
 use Rattle.words.specs.Order.{Side, lower, same, upper}
-use Rattle.words.specs.declared.byte_order.Order.{Order}
-use Rattle.words.specs.declared.byte_order.Order.TheVariants.{Before, Same, After}
+use Rattle.std.specs.declared.cmp.Ordering.{Ordering}
+use Rattle.std.specs.declared.cmp.Ordering.TheVariants.{Less, Equal, Greater}
 
 -- the side that an answer of `compare` stands for
-abbrev pub side_of : Order → Side
-side_of Before = lower
-side_of Same = same
-side_of After = upper
+abbrev pub side_of : Ordering → Side
+side_of Less = lower
+side_of Equal = same
+side_of Greater = upper
 
 -- a text has room for `w` from the place `at` on
 pub record Room (text : List ℕ) (at : ℕ) (w : Word) : Type 0 where

@@ -1,5 +1,5 @@
 -- Numbers of several bytes: document 01, "The rule file", "numbers little-endian".
-use Rattle.std.specs.Prelude.{List, ℕ, ◌+◌, ◌*◌, get_or}
+use Rattle.std.specs.Prelude.{List, ℕ, ◌+◌, ◌*◌, ◌/◌, ◌%◌, get_or, set}
 
 -- the byte at a place, 0 behind the end
 abbrev pub byte : List ℕ → ℕ → ℕ
@@ -8,6 +8,10 @@ byte l i = get_or l i 0
 -- "numbers little-endian", of two bytes
 abbrev pub two : List ℕ → ℕ → ℕ
 two l i = byte l i + 256 * byte l (i + 1)
+
+-- a number was written in two bytes, and nothing else
+abbrev pub with_two : List ℕ → ℕ → ℕ → List ℕ
+with_two l i n = set (set l i (n % 256)) (i + 1) (n / 256)
 
 -- "A set is one 64-bit number", little-endian
 unfoldable pub eight : List ℕ → ℕ → ℕ

@@ -6,15 +6,11 @@ ghost use Rattle.words.specs.Words.{shared};
 pub fn common_length(a: &[u8], b: &[u8]) -> usize
     ensures { result ≡ length (shared a.now b.now) }
 {
-    let mut i = 0;
-    while i < a.len() {
-        if i >= b.len() {
-            return i;
-        }
+    let n = a.len().min(b.len());
+    for i in 0..n {
         if a[i] != b[i] {
             return i;
         }
-        i += 1;
     }
-    i
+    n
 }

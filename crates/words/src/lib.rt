@@ -6,30 +6,22 @@
 mod all_bytes;
 mod beginning;
 mod byte_order;
+mod halves;
 mod little_endian;
 mod writing;
 
-ghost use Rattle.std.specs.Prelude.{◌≡◌, ◌<◌, max};
+ghost use Rattle.std.specs.Prelude.{◌≡◌, ◌<◌};
 
 pub use all_bytes::{together, zeros};
 pub use beginning::common_length;
-pub use byte_order::{Order, compare, same};
-pub use little_endian::{load_eight, load_two};
+pub use byte_order::compare;
+pub use halves::first_not;
+pub use little_endian::{load_eight, load_two, store_two};
 pub use writing::{clear, copy, insert, put_byte, put_bytes, send};
 
 // A byte as a number, with the bound that sums and products of bytes are proved from.
 pub fn wide(x: u8) -> usize
     ensures { (result ≡ x) × (result < 256) }
 {
-    x as usize
-}
-
-// The larger of two numbers.
-pub fn larger(a: usize, b: usize) -> usize
-    ensures { result ≡ max a b }
-{
-    if a < b {
-        return b;
-    }
-    a
+    usize::from(x)
 }

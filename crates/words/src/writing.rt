@@ -8,11 +8,7 @@ pub fn copy(to: &mut [u8], at: usize, part: &[u8])
     requires { at + length part.now ≤ length to.old }
     ensures { to.new ≡ paste to.old at part.now (length part.now) }
 {
-    let mut i = 0;
-    while i < part.len() {
-        to[at + i] = part[i];
-        i += 1;
-    }
+    to[at..at + part.len()].copy_from_slice(part);
 }
 
 // All of `part`, from the start: what a call sends.
@@ -28,11 +24,7 @@ pub fn clear(to: &mut [u8], at: usize, many: usize)
     requires { at + many ≤ length to.old }
     ensures { to.new ≡ paste to.old at (replicate many 0) many }
 {
-    let mut i = 0;
-    while i < many {
-        to[at + i] = 0;
-        i += 1;
-    }
+    to[at..at + many].fill(0);
 }
 
 // A byte, from a place on. Answers the place after it.
@@ -58,10 +50,6 @@ pub fn insert(to: &mut [u8], count: usize, at: usize, byte: u8)
     requires { (at ≤ count) × (count < length to.old) }
     ensures { Inserted to.old count at byte to.new }
 {
-    let mut i = count;
-    while at < i {
-        to[i] = to[i - 1];
-        i -= 1;
-    }
+    to[at..count + 1].rotate_right(1);
     to[at] = byte;
 }

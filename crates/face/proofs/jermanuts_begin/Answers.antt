@@ -4,4 +4,4 @@ use Rattle.face.proofs.jermanuts_begin.Goals as goal
 
 -- A fresh session starts in few states.
 pub overflow_cast-states : goal.overflow_cast-states
-overflow_cast-states c = omega (arith, begun-few c.begin-answer.ensures)
+overflow_cast-states c = grind (arith, begun-few c.begin-answer.ensures)

@@ -5,4 +5,4 @@ use Rattle.join_file.proofs.put_row.Goals as goal
 
 pub returns : goal.returns
 returns c = key-put c.args.start c.args.key.now c.requires.1
-    (appended-next c.put_four-next.ensures c.put_entry.ensures)
+    (appended-next c.put_bytes-next.ensures c.put_entry.ensures)

@@ -1,9 +1,5 @@
-use Prim.Native.Nat.{◌-◌}
 use Rattle.join_file.proofs.Rows.{RowsPut}
 use Rattle.join_file.proofs.put_rows.Given as goal
 
 abbrev pub invariant-loop-i : goal.invariant-loop-i
-invariant-loop-i l = RowsPut l.rows l.initial.out l.at l.count l.i l.out l.end l.start
-
-abbrev pub decreases-loop-i : goal.decreases-loop-i
-decreases-loop-i l = l.count - l.i
+invariant-loop-i l = RowsPut l.rows l.initial.out l.at l.i l.out l.end l.start

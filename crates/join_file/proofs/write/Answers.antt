@@ -12,18 +12,14 @@ front-put c =
     let two = appended-next c.put_head-contents.ensures c.put_entries-classes.ensures in
     appended-next (appended-next two c.put_bytes-starting.ensures) c.put_sets-body.ensures
 
-pub put_rows-words-requires : goal.put_rows-words-requires
-put_rows-words-requires c =
-    let before = front-put (goal.at.put_rows-words-requires c).After-put_sets-body in
-    record { room = rows_fit c.requires before; keys = c.requires.keys }
+pub put_rows-words-requires-clause-room : goal.put_rows-words-requires-clause-room
+put_rows-words-requires-clause-room c =
+    rows_fit c.requires (front-put (goal.at.put_rows-words-requires-clause-room c).After-put_sets-body)
 
-pub put_words-requires : goal.put_words-requires
-put_words-requires c =
-    let before = front-put (goal.at.put_words-requires c).After-put_sets-body in
-    record {
-      room = words-fit c.requires (appended-next before c.put_rows-words.ensures);
-      keys = c.requires.keys;
-    }
+pub put_words-requires-clause-room : goal.put_words-requires-clause-room
+put_words-requires-clause-room c =
+    let before = front-put (goal.at.put_words-requires-clause-room c).After-put_sets-body in
+    words-fit c.requires (appended-next before c.put_rows-words.ensures)
 
 pub returns : goal.returns
 returns c =

@@ -6,18 +6,15 @@ use Rattle.join_nesting.proofs.ByRow.{row-among, rows-each}
 use Rattle.join_nesting.proofs.pairs_nest.Goals as goal
 
 pub loop-j-init : goal.loop-j-init
-loop-j-init c = (omega arith, λ m l. absurd (omega arith))
+loop-j-init c = λ m l. absurd (omega arith)
 
 pub returns-then-not-pair_nests : goal.returns-then-not-pair_nests
 returns-then-not-pair_nests c = no-exact (λ h.
     denied c.pair_nests.ensures c.if-not-pair_nests.true (h.each _ (row-among _ _ (omega arith))))
 
 pub loop-j-preserved : goal.loop-j-preserved
-loop-j-preserved c = (
-  omega arith,
-  below_more _ _ c.loop-j.invariant.1
-      (granted c.pair_nests.ensures c.if-not-pair_nests.false),
-)
+loop-j-preserved c = below_more _ _ c.loop-j.invariant
+    (granted c.pair_nests.ensures c.if-not-pair_nests.false)
 
 pub returns : goal.returns
-returns c = yes-exact (record { each = rows-each _ _ (λ j l. c.loop-j.invariant.1 j (omega arith)) })
+returns c = yes-exact (record { each = rows-each _ _ (λ j l. c.loop-j.invariant j (omega arith)) })

@@ -6,18 +6,15 @@ use Rattle.join_nesting.proofs.ByRow.{row-among, rows-each}
 use Rattle.join_nesting.proofs.rows_nest.Goals as goal
 
 pub loop-i-init : goal.loop-i-init
-loop-i-init c = (omega arith, λ m l. absurd (omega arith))
+loop-i-init c = λ m l. absurd (omega arith)
 
 pub returns-then-not-row_nests : goal.returns-then-not-row_nests
 returns-then-not-row_nests c = no-exact (λ h.
     denied c.row_nests.ensures c.if-not-row_nests.true (h.each _ (row-among _ _ (omega arith))))
 
 pub loop-i-preserved : goal.loop-i-preserved
-loop-i-preserved c = (
-  omega arith,
-  below_more _ _ c.loop-i.invariant.1
-      (granted c.row_nests.ensures c.if-not-row_nests.false),
-)
+loop-i-preserved c = below_more _ _ c.loop-i.invariant
+    (granted c.row_nests.ensures c.if-not-row_nests.false)
 
 pub returns : goal.returns
-returns c = yes-exact (record { each = rows-each _ _ (λ j l. c.loop-i.invariant.1 j (omega arith)) })
+returns c = yes-exact (record { each = rows-each _ _ (λ j l. c.loop-i.invariant j (omega arith)) })

@@ -11,7 +11,7 @@ use Rattle.join_nesting.proofs.words_known.Goals as goal
 use Rattle.join_nesting.proofs.words_known.Goals.{After-all_known}
 
 pub loop-i-init : goal.loop-i-init
-loop-i-init c = (omega arith, λ m l. absurd (omega arith))
+loop-i-init c = λ m l. absurd (omega arith)
 
 pub row_word-requires : goal.row_word-requires
 row_word-requires c = good-word _ _ c.requires.first (omega arith)
@@ -28,11 +28,8 @@ returns-then-not-all_known c = no-exact (λ h.
     (h.each _ (row-among _ _ (omega arith))))
 
 pub loop-i-preserved : goal.loop-i-preserved
-loop-i-preserved c = (
-  omega arith,
-  below_more _ _ c.loop-i.invariant.1
-      (granted (looked (goal.at.loop-i-preserved c).After-all_known) c.if-not-all_known.false),
-)
+loop-i-preserved c = below_more _ _ c.loop-i.invariant
+    (granted (looked (goal.at.loop-i-preserved c).After-all_known) c.if-not-all_known.false)
 
 pub returns : goal.returns
-returns c = yes-exact (record { each = rows-each _ _ (λ j l. c.loop-i.invariant.1 j (omega arith)) })
+returns c = yes-exact (record { each = rows-each _ _ (λ j l. c.loop-i.invariant j (omega arith)) })

@@ -16,18 +16,18 @@ returns-then-word-n c =
 pub slice_bounds-compare-end : goal.slice_bounds-compare-end
 slice_bounds-compare-end c = sym (length-take-le (length c.args.head.now) c.args.word.now (omega arith))
 
-pub returns-in-Before : goal.returns-in-Before
-returns-in-Before c = side-first c.args.head.now c.args.tail.now c.args.word.now lower
-    (ap side_of (sym c.in-Before.is) ∙ c.compare-2.ensures)
+pub returns-in-Less : goal.returns-in-Less
+returns-in-Less c = side-first c.args.head.now c.args.tail.now c.args.word.now lower
+    (ap side_of (sym c.in-Less.is) ∙ c.compare-2.ensures)
 
-pub returns-in-Same : goal.returns-in-Same
-returns-in-Same c = let rest = drop (length c.args.head.now) c.args.word.now in
-    c.compare-in-Same.ensures
+pub returns-in-Equal : goal.returns-in-Equal
+returns-in-Equal c = let rest = drop (length c.args.head.now) c.args.word.now in
+    c.compare-in-Equal.ensures
     ∙ ap (side c.args.tail.now) (take_all (length c.args.word.now - length c.args.head.now) rest
     (omega (arith, length-drop (length c.args.head.now) c.args.word.now)))
     ∙ side-first c.args.head.now c.args.tail.now c.args.word.now same
-    (ap side_of (sym c.in-Same.is) ∙ c.compare-2.ensures)
+    (ap side_of (sym c.in-Equal.is) ∙ c.compare-2.ensures)
 
-pub returns-in-After : goal.returns-in-After
-returns-in-After c = side-first c.args.head.now c.args.tail.now c.args.word.now upper
-    (ap side_of (sym c.in-After.is) ∙ c.compare-2.ensures)
+pub returns-in-Greater : goal.returns-in-Greater
+returns-in-Greater c = side-first c.args.head.now c.args.tail.now c.args.word.now upper
+    (ap side_of (sym c.in-Greater.is) ∙ c.compare-2.ensures)

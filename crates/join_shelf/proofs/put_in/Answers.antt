@@ -7,24 +7,27 @@ use native.Mathlib.Omega.{arith}
 use lib.ListN.{length, length-append}
 use Rattle.words.proofs.Exact.{denied}
 use Rattle.join_shelf.specs.Shelved.{word_at, Held, SomeShelved}
-use Rattle.join_shelf.specs.declared.Shelf.TheVariants.{Made}
+use Rattle.std.specs.Prelude.{Some}
+use Rattle.join_shelf.specs.declared.Stock.{Stock}
 use Rattle.join_shelf.proofs.Rooms.{held_same, held_new, more-words, more_bytes}
 use Rattle.join_shelf.proofs.Laws.{shelved-made, shelved-full}
 use Rattle.join_shelf.proofs.put_in.Goals as goal
 use Rattle.join_shelf.proofs.put_in.Goals.{After-stands, Else-stands}
+use Rattle.join_shelf.proofs.put_in.Goals.{then-left-head-via-then-left-head}
+use Rattle.join_shelf.proofs.put_in.Goals.{then-left-head-via-else-left-head+then-left-head-2}
 
 -- where it is known whether the word is there
 abbrev long : (c : After-stands) → length (c.args.head.now ++ c.args.tail.now)
     ≡ length c.args.head.now + length c.args.tail.now
 long c = length-append c.args.head.now c.args.tail.now
 
-new : (c : Else-stands) → c.place-at.result < c.args.count
+new : (c : Else-stands) → c.place-at.result < c.args.stock.count
     → c.args.head.now ++ c.args.tail.now ≡ word_at c.args.room.now c.place-at.result → ⊥
 new c l e = denied c.stands.ensures c.if-stands.false (l, e)
 
 -- what was put before stands
-held-before : {room : List ℕ} {count used : ℕ} (s : SomeShelved room (Made count used)) → Held s.0 room count used
-held-before s = s.1.made _ _ refl
+held-before : {room : List ℕ} {t : Stock} (s : SomeShelved room (Some t)) → Held s.0 room t.count t.used
+held-before s = s.1.made _ refl
 
 pub place-at-requires : goal.place-at-requires
 place-at-requires c = (held-before c.requires).standing
@@ -35,28 +38,25 @@ stands-requires c = (held-before c.requires).standing
 pub returns-then-stands : goal.returns-then-stands
 returns-then-stands c = λ made g.
     let p = c.stands.ensures.1 c.if-stands.true in
-    shelved-made (held_same (g.made _ _ refl) c.place-at.ensures p.0 p.1)
+    shelved-made (held_same (g.made _ refl) c.place-at.ensures p.0 p.1)
 
 pub returns-then-count-eq256 : goal.returns-then-count-eq256
 returns-then-count-eq256 c = λ made g.
-    let n = more-words (g.made _ _ refl) c.place-at.ensures (new (goal.at.returns-then-count-eq256 c).Else-stands) in
+    let n = more-words (g.made _ refl) c.place-at.ensures (new (goal.at.returns-then-count-eq256 c).Else-stands) in
     shelved-full (inl (omega arith))
 
-pub overflow_sub-used : goal.overflow_sub-used
-overflow_sub-used c = (held-before c.requires).fits
+pub overflow_sub-left : goal.overflow_sub-left
+overflow_sub-left c = (held-before c.requires).fits
 
-pub returns-then-used-head : goal.returns-then-used-head
-returns-then-used-head c = λ made g.
-    let n = more_bytes (g.made _ _ refl) c.place-at.ensures (new (goal.at.returns-then-used-head c).Else-stands) in
-    shelved-full (inr (omega (arith, long (goal.at.returns-then-used-head c).After-stands)))
-
-pub overflow_sub-used-2 : goal.overflow_sub-used-2
-overflow_sub-used-2 c = (held-before c.requires).fits
-
-pub returns-then-used-head-2 : goal.returns-then-used-head-2
-returns-then-used-head-2 c = λ made g.
-    let n = more_bytes (g.made _ _ refl) c.place-at.ensures (new (goal.at.returns-then-used-head-2 c).Else-stands) in
-    shelved-full (inr (omega (arith, long (goal.at.returns-then-used-head-2 c).After-stands)))
+pub returns-then-left-head : goal.returns-then-left-head
+returns-then-left-head c = λ made g.
+    let n = more_bytes (g.made _ refl) c.place-at.ensures (new (goal.at.returns-then-left-head c).Else-stands) in
+    let l = long (goal.at.returns-then-left-head c).After-stands in
+    let fits = (held-before c.requires).fits in
+    shelved-full (inr (elim c.then-left-head.branch [
+      | then-left-head-via-then-left-head w ↦ omega arith
+      | then-left-head-via-else-left-head+then-left-head-2 w ↦ omega arith
+    ]))
 
 pub store-end-requires : goal.store-end-requires
 store-end-requires c =
@@ -83,7 +83,7 @@ overflow_add-result c = omega (arith, (held-before c.requires).standing.few)
 
 pub returns : goal.returns
 returns c = λ made g.
-    let s = g.made _ _ refl in
+    let s = g.made _ refl in
     shelved-made
     (held_new s c.place-at.ensures (new (goal.at.returns c).Else-stands) c.store-end.ensures.stored
     c.store-end.ensures.same_order c.insert.ensures (omega (arith, s.standing.few))

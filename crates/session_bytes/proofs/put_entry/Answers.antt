@@ -9,12 +9,12 @@ parts_at : (c : After-copy)
     → Parts c.args.session.now c.args.i c.args.link c.args.piece.now c.copy.new.to
 parts_at c = parts-made (omega arith) c.requires c.put.ensures c.copy.ensures
 
-pub returns-then-old-n : goal.returns-then-old-n
-returns-then-old-n c =
-    put-over c.requires c.long-old.ensures.0 c.if-old-n.true
-    (parts_at (goal.at.returns-then-old-n c).After-copy)
-
-pub returns : goal.returns
-returns c =
+pub returns-then-n-old : goal.returns-then-n-old
+returns-then-n-old c =
     put-behind (omega arith) c.requires c.long-old.ensures.0 (omega arith)
-    (parts_at (goal.at.returns c).After-copy) c.clear.ensures
+    (parts_at (goal.at.returns-then-n-old c).After-copy) c.clear.ensures
+
+pub returns-else-n-old : goal.returns-else-n-old
+returns-else-n-old c =
+    put-over c.requires c.long-old.ensures.0 c.if-n-old.false
+    (parts_at (goal.at.returns-else-n-old c).After-copy)

@@ -1,9 +1,6 @@
 -- At most one is counted for each value passed.
-use Rattle.std.proofs.Common.{◌-◌, ◌≤◌}
+use Rattle.std.proofs.Common.{◌≤◌}
 use Rattle.cases.proofs.checks.values.Given as goal
 
 abbrev pub invariant-loop-v : goal.invariant-loop-v
-invariant-loop-v l = (l.v ≤ 256) × (l.sum ≤ l.v)
-
-abbrev pub decreases-loop-v : goal.decreases-loop-v
-decreases-loop-v l = 256 - l.v
+invariant-loop-v l = l.sum ≤ l.v

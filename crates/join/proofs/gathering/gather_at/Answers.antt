@@ -4,7 +4,6 @@ use Prim.Native.Nat.{ℕ}
 use native.Mathlib.Omega.{arith}
 use Rattle.meaning.specs.Table.{Class, return}
 use Rattle.table.specs.File.{row_at, table_of}
-use Rattle.table.proofs.Passed.{good-word}
 use Rattle.join_shelf.proofs.Laws.{gathers-none, gathers-as}
 use Rattle.join.specs.Gathering.{plan_of, given_at}
 use Rattle.join.specs.declared.gathering.Wanted.{Wanted}
@@ -34,20 +33,15 @@ reading c goal e =
     plan-read c.args.first.now c.args.second.now c.args.at.row c.args.at.state c.requires.at c.args.wanted (class-of c)
     c.requires.marked refl (is c e)
 
-pub row_word-read_word-requires : goal.row_word-read_word-requires
-row_word-read_word-requires c = let at = c.requires.at in
-    good-word _ _ at.small.hops.first at.row
+pub read-requires-clause-reads : goal.read-requires-clause-reads
+read-requires-clause-reads c =
+    row_reads c.args.first.now c.args.second.now c.args.at.row _ c.row_word-read_word.ensures _ _ c.requires.at
+    (omega arith)
 
-pub read-requires : goal.read-requires
-read-requires c =
-    let read = reading (goal.at.read-requires c).After-planned _ c.in-Read.is in
-    let is = c.row_word-read_word.ensures in
-    record {
-      reads = row_reads c.args.first.now c.args.second.now c.args.at.row _ is _ _ c.requires.at (omega arith);
-      ranked = read.ranked;
-      suited = row-suited c.args.first.now c.args.second.now c.args.at.row _ is _ 0 c.args.tape.now read.suited;
-      some_shelved = c.requires.some_shelved;
-    }
+pub read-requires-clause-suited : goal.read-requires-clause-suited
+read-requires-clause-suited c =
+    row-suited c.args.first.now c.args.second.now c.args.at.row _ c.row_word-read_word.ensures _ 0 c.args.tape.now
+    (reading (goal.at.read-requires-clause-suited c).After-planned _ c.in-Read.is).suited
 
 -- all marks stand where a return row is read from them
 from-marks : (c : After-planned) (count : ℕ) → c.planned.result ≡ FromMarks count
@@ -55,14 +49,10 @@ from-marks : (c : After-planned) (count : ℕ) → c.planned.result ≡ FromMark
 from-marks c count e =
     plan-marks c.args.first.now c.args.second.now c.args.at.row c.args.at.state c.args.wanted (class-of c) (is c e)
 
-pub return_rows-requires : goal.return_rows-requires
-return_rows-requires c =
-    let both = from-marks (goal.at.return_rows-requires c).After-planned _ c.in-FromMarks.is in
-    record {
-      at = (c.requires.at, both.1);
-      all_marks = marked-rows both.0 c.requires.marked;
-      some_shelved = c.requires.some_shelved;
-    }
+pub return_rows-requires-clause-all_marks : goal.return_rows-requires-clause-all_marks
+return_rows-requires-clause-all_marks c =
+    let both = from-marks (goal.at.return_rows-requires-clause-all_marks c).After-planned _ c.in-FromMarks.is in
+    marked-rows both.0 c.requires.marked
 
 pub returns-in-Skip : goal.returns-in-Skip
 returns-in-Skip c = gathers-as gathers-none

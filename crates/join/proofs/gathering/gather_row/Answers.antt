@@ -1,29 +1,19 @@
 -- `join::gathering::gather_row` meets its contract. Assumes nothing.
 use native.Mathlib.Omega.{arith}
 use Rattle.table.specs.File.{table_of}
-use Rattle.join.proofs.Passing.{passing-start, passing-ready, passing-next, passing-end}
+use Rattle.join.proofs.Passing.{passing-next, passing-end, passing-out}
 use Rattle.join.proofs.Given.{by-states}
 use Rattle.join.proofs.gathering.gather_row.Goals as goal
 
-pub loop-state-init : goal.loop-state-init
-loop-state-init c = (omega arith, passing-start)
-
-pub gather_at-made-requires : goal.gather_at-made-requires
-gather_at-made-requires c = record {
-  at = record {
-    small = c.requires.small.0;
-    row = c.requires.small.1;
-    state = omega (arith, c.loop-state-test.true, c.states-n.ensures);
-  };
-  marked = c.requires.marked;
-  some_shelved = passing-ready c.loop-state.invariant.1 c.requires.some_shelved;
-}
-
 pub loop-state-preserved : goal.loop-state-preserved
-loop-state-preserved c =
-    (omega (arith, c.loop-state-test.true), passing-next c.loop-state.invariant.1 c.gather_at-made.ensures)
+loop-state-preserved c = passing-next c.loop-state.invariant c.in_ok-made.ensures
+
+pub returns-in_err-made : goal.returns-in_err-made
+returns-in_err-made c =
+    rw c.from_residual.ensures
+    (passing-out (passing-next c.loop-state.invariant c.in_err-made.ensures) (table_of c.args.second.now).states
+    (omega arith) (by-states c.args.wanted c.args.first.now c.args.second.now c.args.row))
 
 pub returns : goal.returns
-returns c = passing-end c.loop-state.invariant.1 (table_of c.args.second.now).states
-    (omega (arith, c.states-n.ensures))
+returns c = passing-end c.loop-state.invariant (table_of c.args.second.now).states (omega arith)
     (by-states c.args.wanted c.args.first.now c.args.second.now c.args.row)

@@ -7,7 +7,6 @@ use Rattle.words.specs.Words.{Word}
 use Rattle.join_shelf.specs.Shelved.{word_at}
 use Rattle.join_shelf.proofs.Laws.{gathers-none, gathers-as}
 use Rattle.join.specs.Gathering.{mark_of}
-use Rattle.table.proofs.Passed.{good-word}
 use Rattle.join.proofs.Given.{suited-close, row_reads, row-suited, row-found}
 use Rattle.join.proofs.FromMarks.{key-long, return-other, return-same, laid}
 use Rattle.join.proofs.gathering.return_row.Goals as goal
@@ -53,21 +52,17 @@ slice_bounds-left-start c = omega (arith, (long (goal.at.slice_bounds-left-start
 pub copy-requires : goal.copy-requires
 copy-requires c = omega (arith, left-long (goal.at.copy-requires c).After-word-key)
 
-pub row_word-read_word-requires : goal.row_word-read_word-requires
-row_word-read_word-requires c = let at = c.requires.at in
-    good-word _ _ at.small.hops.first at.row
+pub read-requires-clause-reads : goal.read-requires-clause-reads
+read-requires-clause-reads c =
+    row_reads c.args.first.now c.args.second.now c.args.at.row _ c.row_word-read_word.ensures _ _ c.requires.at
+    (left-long (goal.at.read-requires-clause-reads c).After-word-key)
 
-pub read-requires : goal.read-requires
-read-requires c = record {
-  reads =
-      row_reads c.args.first.now c.args.second.now c.args.at.row _ c.row_word-read_word.ensures _ _ c.requires.at
-      (left-long (goal.at.read-requires c).After-word-key);
-  ranked = rw c.close_goal-goal.ensures tt;
-  suited = rw c.close_goal-goal.ensures
-      (row-suited c.args.first.now c.args.second.now c.args.at.row _ c.row_word-read_word.ensures _
-      (length (left-of (goal.at.read-requires c).After-word-key)) c.copy.new.to (suited-close c.requires.at _ _));
-  some_shelved = c.requires.some_shelved;
-}
+pub read-requires-clause-suited : goal.read-requires-clause-suited
+read-requires-clause-suited c =
+    rw c.close_goal-goal.ensures
+    (row-suited c.args.first.now c.args.second.now c.args.at.row _ c.row_word-read_word.ensures _
+    (length (left-of (goal.at.read-requires-clause-suited c).After-word-key)) c.copy.new.to
+    (suited-close c.requires.at _ _))
 
 pub returns : goal.returns
 returns c = let left_is = ap (λ (w : Word). take (length w - 1) (drop 1 w)) c.word-key.ensures in

@@ -7,44 +7,25 @@ use Rattle.join_file.specs.declared.Sizes.{Sizes}
 use Rattle.join.specs.Hopping.{LongKey}
 use Rattle.join.proofs.Hopped.{hopped-used, hopped-long, hopped-words, hopped-no-room, hopped-laying}
 use Rattle.join.proofs.Hopped.{hopped-taken}
-use Rattle.join.proofs.Told.{answered}
 use Rattle.join.proofs.hops.lay.Goals as goal
 use Rattle.join.proofs.hops.lay.Goals.{Else-long_rows}
 
-pub long_rows-requires : goal.long_rows-requires
-long_rows-requires c = c.requires.held.standing
-
 pub returns-then-long_rows : goal.returns-then-long_rows
-returns-then-long_rows c = answered c.refused.ensures
-    (hopped-long c.requires _ (c.long_rows.ensures.1 c.if-long_rows.true))
-
-pub overflow_mul-words : goal.overflow_mul-words
-overflow_mul-words c = omega (arith, c.requires.held.standing.few)
+returns-then-long_rows c = hopped-long c.requires _ (c.long_rows.ensures.1 c.if-long_rows.true)
 
 pub overflow_sub-words : goal.overflow_sub-words
-overflow_sub-words c = omega (arith, hopped-used c.requires)
+overflow_sub-words c = hopped-used c.requires
 
 -- no key is long
-short : (c : Else-long_rows)
-    → LongKey c.args.rows.now c.args.count → ⊥
+short : (c : Else-long_rows) → LongKey c.args.rows.now c.args.rowed.count → ⊥
 short c = denied c.long_rows.ensures c.if-long_rows.false
 
 pub returns-then-words-gt4096 : goal.returns-then-words-gt4096
-returns-then-words-gt4096 c = answered c.refused-then-words-gt4096.ensures (hopped-words c.requires _ (omega arith))
-
-pub overflow_mul-count : goal.overflow_mul-count
-overflow_mul-count c = omega (arith, c.requires.held.standing.few)
-
-pub overflow_add-count : goal.overflow_add-count
-overflow_add-count c = omega (arith, c.requires.held.standing.few)
-
-pub overflow_add-count-2 : goal.overflow_add-count-2
-overflow_add-count-2 c = omega (arith, c.requires.held.standing.few)
+returns-then-words-gt4096 c = hopped-words c.requires _ (omega arith)
 
 pub returns-then-out-count : goal.returns-then-out-count
 returns-then-out-count c =
-    answered c.refused-then-out-count.ensures (hopped-no-room c.requires _
-    (short (goal.at.returns-then-out-count c).Else-long_rows) (omega arith) (omega arith))
+    hopped-no-room c.requires _ (short (goal.at.returns-then-out-count c).Else-long_rows) (omega arith) (omega arith)
 
 pub write-requires : goal.write-requires
 write-requires c =
@@ -55,8 +36,8 @@ pub returns : goal.returns
 returns c =
     let sizes : Sizes = record {
       markers = c.args.markers;
-      rows = c.args.count;
-      words = c.args.used - 4 * c.args.count;
+      rows = c.args.rowed.count;
+      words = c.args.rowed.used - 4 * c.args.rowed.count;
     } in
     hopped-taken c.requires _ (short (goal.at.returns c).Else-long_rows) (omega arith) (omega arith) sizes refl refl refl
     c.write.ensures

@@ -1,10 +1,7 @@
-use Prim.Native.Nat.{ℕ, ◌-◌, ◌<◌, ◌≤◌}
+use Prim.Native.Nat.{ℕ, ◌<◌, ◌≤◌}
 use lib.ListN.{length}
 use Rattle.join_shelf.specs.Shelved.{word_at}
 use Rattle.join.proofs.hops.long_rows.Given as goal
 
 abbrev pub invariant-loop-i : goal.invariant-loop-i
-invariant-loop-i l = (l.i ≤ l.count) × ((k : ℕ) → k < l.i → length (word_at l.rows k) ≤ 259)
-
-abbrev pub decreases-loop-i : goal.decreases-loop-i
-decreases-loop-i l = l.count - l.i
+invariant-loop-i l = (k : ℕ) → k < l.i → length (word_at l.rows k) ≤ 259

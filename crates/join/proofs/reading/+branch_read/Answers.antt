@@ -1,33 +1,32 @@
 -- The cycle of calls of `branch` and `read` (`join::reading`): a branch reads what is left of the word, and a reading
 -- has a branch for each row of the word's first byte, so that the word gets shorter.
 -- Assumes nothing.
-use mathlib.Core.List.{List, reverse}
-use mathlib.Core.Path.{◌≡◌, sym, ◌∙◌, ap}
-use Prim.Native.Nat.{ℕ, ◌-◌, ◌<◌, ◌≤◌}
+use mathlib.Core.List.{List, ◌∷◌, reverse}
+use mathlib.Core.Path.{◌≡◌, refl, sym, ◌∙◌, ap}
+use Prim.Native.Nat.{ℕ, ◌+◌, ◌-◌, ◌<◌}
 use native.Mathlib.Omega.{arith}
-use lib.ListN.{length, get_or, take, drop}
+use lib.ListN.{get_or, take, drop}
+use Rattle.std.specs.Prelude.{Option}
 use Rattle.words.specs.Words.{Word}
 use Rattle.words.proofs.Exact.{denied, granted}
+use Rattle.meaning.specs.Table.{Class}
 use Rattle.meaning.specs.Runs.{Config, config}
-use Rattle.table.specs.File.{row_count, row_at}
-use Rattle.table.specs.Good.{first_edition, GoodFile}
-use Rattle.table.specs.Calls.{meant, FirstRow}
-use Rattle.table.proofs.Symbols.{none-behind}
+use Rattle.meaning.specs.Joining.{after_row}
+use Rattle.table.specs.File.{row_count, row_at, table_of}
+use Rattle.table.specs.Calls.{meant, RowsFrom}
+use Rattle.table.proofs.Symbols.{rows-ordered, rows-have, rows_behind}
 use Rattle.join_shelf.specs.Shelved.{Gathers}
-use Rattle.join_shelf.specs.declared.Shelf.{Shelf}
-use Rattle.join_shelf.proofs.Laws.{gathers-none, gathers-still, gathers-as}
+use Rattle.join_shelf.specs.declared.Stock.{Stock}
+use Rattle.join_shelf.proofs.Laws.{gathers-none, gathers-as}
 use Rattle.join_shelf.proofs.Rooms.{part_slice}
-use Rattle.join.specs.Reading.{stack_room, config_of, marks_of, keys_of, findings, findings_of}
+use Rattle.join.specs.Reading.{stack_room, config_of, marks_of, keys_of, findings_of}
 use Rattle.join.specs.declared.reading.Cursor.{Cursor}
 use Rattle.join.specs.declared.reading.Goal.{Goal}
 use Rattle.join.proofs.Moves.{taken_none, moved, height-near, untouched-self, untouched-both, same-config, put_back}
 use Rattle.join.proofs.Passing.{Passing, passing-ready, passing-next}
 use Rattle.join.proofs.Findings.{findings-end, findings-one, suited-end, suited-from, suited-row, by-class}
-use Rattle.join.proofs.Findings.{by_row, rows_start, rows_end, word_first}
+use Rattle.join.proofs.Findings.{by_row, rows_start, rows_end, rows_out}
 use Rattle.join.proofs.reading.+branch_read.Goals as goal
-
-pub branch-returns-then-full-clause-gathers : goal.branch-returns-then-full-clause-gathers
-branch-returns-then-full-clause-gathers t c = gathers-still _ (c.full.ensures.1 c.if-full.true)
 
 pub branch-returns-then-not-fits-clause-gathers : goal.branch-returns-then-not-fits-clause-gathers
 branch-returns-then-not-fits-clause-gathers t c =
@@ -91,74 +90,74 @@ read-found-requires-clause-suited t c =
     let a = c.args in
     rw (on_tape a.cursor a.tape.now)
     (suited-end a.second.now (marks_of a.marks.now a.goal) a.goal a.word.now (config_of a.cursor a.tape.now)
-    c.if-word-eq0.true c.requires.suited)
+    c.in_default.ensures.cases c.requires.suited)
 
-pub read-returns-then-word-eq0-clause-gathers : goal.read-returns-then-word-eq0-clause-gathers
-read-returns-then-word-eq0-clause-gathers t c =
+pub read-returns-in_default-clause-gathers : goal.read-returns-in_default-clause-gathers
+read-returns-in_default-clause-gathers t c =
     let a = c.args in
     gathers-as c.found.ensures
     (ap (keys_of (marks_of a.marks.now a.goal) a.goal) (on_tape a.cursor a.tape.now)
     ∙ findings-end a.second.now (marks_of a.marks.now a.goal) a.goal a.word.now (config_of a.cursor a.tape.now)
-    c.if-word-eq0.true)
+    c.in_default.ensures.cases)
+
+-- the word by its first byte, and the rows of that byte
+module _ {word rest : Word} {first : ℕ} (e : word ≡ first ∷ rest) where
+  first-is : first ≡ get_or word 0 0
+  first-is = sym (ap (λ (w : Word). get_or w 0 0) e)
+
+  whole : word ≡ get_or word 0 0 ∷ rest
+  whole = e ∙ ap (λ (x : ℕ). x ∷ rest) first-is
+
+  rows-first : {second : List ℕ} {state start end : ℕ} → RowsFrom second first state start end
+      → RowsFrom second (get_or word 0 0) state start end
+  rows-first r = rw (← first-is) r
+
+  class-first : (second : List ℕ) {k : Class} → k ≡ (table_of second).class first
+      → k ≡ (table_of second).class (get_or word 0 0)
+  class-first second r = rw (← first-is) r
+
+-- one of them more
+module _ (second : List ℕ) (marks : List Word) (goal : Goal) (word rest : Word) (from : Config) where
+  abbrev symbol : ℕ
+  symbol = get_or word 0 0
+
+  passed-more : {room room' room'' : List ℕ} {s s' s'' : Option Stock} {n m row : ℕ} {k : Class} {d : Config}
+      → Passing (by_row second marks goal symbol rest from) room s n room' s' → row ≡ n → m ≡ n + 1
+      → k ≡ (table_of second).class symbol → (row_at second row).symbol ≡ symbol → d ≡ from
+      → Gathers (findings_of second marks goal rest (after_row k (row_at second row) d)) room' s' s'' room''
+      → Passing (by_row second marks goal symbol rest from) room s m room'' s''
+  passed-more {row = row} p e f class has same g =
+      rw f
+      (passing-next p
+      (gathers-as g
+      (by-class second marks goal symbol rest from row class has same
+      ∙ ap (by_row second marks goal symbol rest from) e)))
 
 pub read-loop-row-init : goal.read-loop-row-init
 read-loop-row-init t c =
     let a = c.args in
+    let rows =
+    rw (← c.into_iter-row-iterator.ensures.into_iter_gives) at
+    (rows-first c.in-Some.ensures.cases.0 c.rows_from-row-items.ensures) in
     record {
+      rows = rows;
       from = omega arith;
-      within = omega (arith, c.first_row-row.ensures.within, c.row_count-n.ensures);
+      within = rows-ordered rows;
       kept = untouched-self;
       passed =
-          rows_start a.second.now (marks_of a.marks.now a.goal) a.goal (get_or a.word.now 0 0)
-          (take (length a.word.now - 1) (drop 1 a.word.now)) (config_of a.cursor a.tape.now)
-          c.first_row-row.ensures;
+          rows_start a.second.now (marks_of a.marks.now a.goal) a.goal (get_or a.word.now 0 0) c.in-Some.rest.now
+          (config_of a.cursor a.tape.now) rows.starts;
     }
 
--- the rows of the word's first byte, one after the other
-module _ (second : List ℕ) (marks : List Word) (goal : Goal) (word : Word) (from : Config) where
-  abbrev symbol : ℕ
-  symbol = get_or word 0 0
-
-  abbrev rest : Word
-  rest = take (length word - 1) (drop 1 word)
-
-  -- at a row that is not of the symbol from the state, all such rows are passed
-  stopped : {room room' : List ℕ} {s s' : Shelf} {first row : ℕ} → (length word ≡ 0 → ⊥) → GoodFile first_edition second
-      → FirstRow second symbol from.state first → first ≤ row → row < row_count second
-      → ((row_at second row).symbol ≡ symbol → (row_at second row).from ≡ from.state → ⊥)
-      → Passing (by_row second marks goal symbol rest from) room s row room' s'
-      → Gathers (findings second marks goal word from) room s s' room'
-  stopped long good f low within other p =
-      rows_end second marks goal symbol rest from (word_first word (omega arith)) p (omega arith)
-      (none-behind second good.rows f low within other)
-
-pub read-returns-then-row_symbol-wide-clause-gathers :
-    goal.read-returns-then-row_symbol-wide-clause-gathers
-read-returns-then-row_symbol-wide-clause-gathers t c =
-    let a = c.args in
-    stopped a.second.now (marks_of a.marks.now a.goal) a.goal a.word.now (config_of a.cursor a.tape.now)
-    c.if-word-eq0.false c.requires.reads.good c.first_row-row.ensures c.loop-row.invariant.from
-    (omega (arith, c.row_count-n.ensures))
-    (λ s f. omega (arith, c.wide.ensures.0, c.row_symbol.ensures))
-    c.loop-row.invariant.passed
-
-pub read-returns-then-row_from-cursor-clause-gathers :
-    goal.read-returns-then-row_from-cursor-clause-gathers
-read-returns-then-row_from-cursor-clause-gathers t c =
-    let a = c.args in
-    stopped a.second.now (marks_of a.marks.now a.goal) a.goal a.word.now (config_of a.cursor a.tape.now)
-    c.if-word-eq0.false c.requires.reads.good c.first_row-row.ensures c.loop-row.invariant.from
-    (omega (arith, c.row_count-n.ensures))
-    (λ s f. omega (arith, c.row_from.ensures))
-    c.loop-row.invariant.passed
-
-pub read-branch-made-requires : goal.read-branch-made-requires
-read-branch-made-requires t c =
+pub read-branch-second-requires : goal.read-branch-second-requires
+read-branch-second-requires t c =
     let a = c.args in
     let pre = c.requires.reads in
-    let word = word_first a.word.now (omega arith) in
-    let long = ap length word in
-    let within : c.loop-row.row < row_count a.second.now = omega (arith, c.row_count-n.ensures) in (
+    let is = c.in-Some.ensures.cases.0 in
+    let long = c.in-Some.ensures.cases.1 in
+    let here = c.in-Some-row.ensures.steps in
+    let rows = c.loop-row.invariant.rows in
+    let within : c.in-Some-row.row < row_count a.second.now = omega (arith, rows.ends.within) in (
       omega arith,
       (
         record {
@@ -171,10 +170,10 @@ read-branch-made-requires t c =
         (
           c.requires.ranked,
           (
-            suited-row a.second.now (marks_of a.marks.now a.goal) a.goal (get_or a.word.now 0 0)
-                (take (length a.word.now - 1) (drop 1 a.word.now)) (config_of a.cursor a.tape.now) word
-                c.loop-row.row within c.class_of-class.ensures
-                (omega (arith, c.wide.ensures.0, c.row_symbol.ensures))
+            suited-row a.second.now (marks_of a.marks.now a.goal) a.goal (get_or a.word.now 0 0) c.in-Some.rest.now
+                (config_of a.cursor a.tape.now) (whole is) c.in-Some-row.row within
+                (class-first is a.second.now c.class_of-class.ensures)
+                (rows-have rows c.in-Some-row.row (omega arith) (omega arith)).0
                 (same-config a.cursor (omega (arith, pre.high, pre.behind)) c.loop-row.invariant.kept)
                 c.requires.suited,
             passing-ready c.loop-row.invariant.passed c.requires.some_shelved,
@@ -187,23 +186,45 @@ pub read-loop-row-preserved : goal.read-loop-row-preserved
 read-loop-row-preserved t c =
     let a = c.args in
     let pre = c.requires.reads in
+    let is = c.in-Some.ensures.cases.0 in
+    let here = c.in-Some-row.ensures.steps in
+    let rows = c.loop-row.invariant.rows in
     record {
+      rows = rw c.in-Some-row.ensures.steps.0 rows;
       from = omega arith;
       within = omega arith;
-      kept = untouched-both c.loop-row.invariant.kept c.branch-made.ensures.untouched;
+      kept = untouched-both c.loop-row.invariant.kept c.in_ok-made.ensures.untouched;
       passed =
-          passing-next c.loop-row.invariant.passed
-          (gathers-as c.branch-made.ensures.gathers
-          (by-class a.second.now (marks_of a.marks.now a.goal) a.goal (get_or a.word.now 0 0)
-          (take (length a.word.now - 1) (drop 1 a.word.now)) (config_of a.cursor a.tape.now) c.loop-row.row
-          c.class_of-class.ensures (omega (arith, c.wide.ensures.0, c.row_symbol.ensures))
-          (same-config a.cursor (omega (arith, pre.high, pre.behind)) c.loop-row.invariant.kept)));
+          passed-more a.second.now (marks_of a.marks.now a.goal) a.goal a.word.now c.in-Some.rest.now
+          (config_of a.cursor a.tape.now) c.loop-row.invariant.passed (omega arith) (omega arith)
+          (class-first is a.second.now c.class_of-class.ensures)
+          (rows-have rows c.in-Some-row.row (omega arith) (omega arith)).0
+          (same-config a.cursor (omega (arith, pre.high, pre.behind)) c.loop-row.invariant.kept)
+          c.in_ok-made.ensures.gathers;
     }
+
+pub read-returns-in_err-made-clause-gathers : goal.read-returns-in_err-made-clause-gathers
+read-returns-in_err-made-clause-gathers t c =
+    let a = c.args in
+    let pre = c.requires.reads in
+    let is = c.in-Some.ensures.cases.0 in
+    let here = c.in-Some-row.ensures.steps in
+    let rows = c.loop-row.invariant.rows in
+    rw c.from_residual.ensures
+    (rows_out a.second.now (marks_of a.marks.now a.goal) a.goal (get_or a.word.now 0 0) c.in-Some.rest.now
+    (config_of a.cursor a.tape.now) (whole is)
+    (passed-more a.second.now (marks_of a.marks.now a.goal) a.goal a.word.now c.in-Some.rest.now
+    (config_of a.cursor a.tape.now) c.loop-row.invariant.passed (omega arith) refl
+    (class-first is a.second.now c.class_of-class.ensures) (rows-have rows c.in-Some-row.row (omega arith) (omega arith)).0
+    (same-config a.cursor (omega (arith, pre.high, pre.behind)) c.loop-row.invariant.kept)
+    c.in_err-made.ensures.gathers)
+    (omega (arith, rows.ends.within)))
 
 pub read-returns-clause-gathers : goal.read-returns-clause-gathers
 read-returns-clause-gathers t c =
     let a = c.args in
-    rows_end a.second.now (marks_of a.marks.now a.goal) a.goal (get_or a.word.now 0 0)
-    (take (length a.word.now - 1) (drop 1 a.word.now)) (config_of a.cursor a.tape.now)
-    (word_first a.word.now (omega arith)) c.loop-row.invariant.passed (omega (arith, c.row_count-n.ensures))
-    (λ k l m. absurd (omega (arith, c.row_count-n.ensures)))
+    let rows = c.loop-row.invariant.rows in
+    let here = c.in-None.ensures.steps in
+    rows_end a.second.now (marks_of a.marks.now a.goal) a.goal (get_or a.word.now 0 0) c.in-Some.rest.now
+    (config_of a.cursor a.tape.now) (whole c.in-Some.ensures.cases.0) c.loop-row.invariant.passed
+    (omega (arith, rows.ends.within)) (λ k l m. rows_behind rows k (omega arith) m)

@@ -1,24 +1,16 @@
 -- `join::reading::append` meets its contract. Assumes nothing.
-use mathlib.Core.Path.{ap}
 use Prim.Native.Nat.{◌+◌, ◌≤◌}
 use native.Mathlib.Omega.{arith}
 use lib.ListN.{length, length-take}
 use Rattle.table.specs.File.{row_start, word_of}
-use Rattle.table.proofs.Passed.{word-in}
 use Rattle.join.proofs.Moves.{appended}
 use Rattle.join.proofs.reading.append.Goals as goal
 use Rattle.join.proofs.reading.append.Goals.{After-row_word-word}
-
-pub row_word-word-requires : goal.row_word-word-requires
-row_word-word-requires c = word-in _ _ c.requires.0.contents c.requires.1 (c.requires.0.rows.fit _ c.requires.1)
 
 -- a byte says how long a row's word is
 short : (c : After-row_word-word) → length (word_of c.args.second.now c.args.r) ≤ 255
 short c = simp length-take (let n = c.type_inv.second (row_start c.args.r + 6) in omega arith)
 
-pub copy-requires : goal.copy-requires
-copy-requires c = omega (arith, short (goal.at.copy-requires c).After-row_word-word, ap length c.row_word-word.ensures)
-
 pub returns : goal.returns
 returns c = let s = short (goal.at.returns c).After-row_word-word in
-    appended c.row_word-word.ensures c.copy.ensures (omega (arith, ap length c.row_word-word.ensures)) s
+    appended c.row_word-word.ensures c.put_bytes.ensures s

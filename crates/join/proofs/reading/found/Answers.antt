@@ -1,8 +1,10 @@
 -- `join::reading::found` meets its contract. Assumes nothing.
 use Prim.Native.Nat.{◌+◌, ◌<◌}
 use native.Mathlib.Omega.{arith}
+use borrow.Author.Tests.{eq-eqb}
+use lib.ListN.{length}
 use Rattle.join_shelf.proofs.Laws.{gathers-none, gathers-as}
-use Rattle.join.proofs.Found.{suited-one, keys-mark, keys-call, keys-close, keys-left}
+use Rattle.join.proofs.Found.{suited-one, keys-call, keys-left}
 use Rattle.join.proofs.reading.found.Goals as goal
 use Rattle.join.proofs.reading.found.Goals.{After-wide, After-wide-in-Close}
 
@@ -15,18 +17,16 @@ close-state : (c : After-wide-in-Close) → c.wide-in-Close.result + c.args.stat
 close-state c =
     omega (arith, suited-one (rw c.in-Close.is at c.requires.suited), c.wide-in-Close.ensures.0)
 
-pub mark_number-number-requires : goal.mark_number-number-requires
-mark_number-number-requires c = rw c.in-Call.is at c.requires.ranked
-
 pub overflow_add-to : goal.overflow_add-to
 overflow_add-to c = omega (arith, call-state (goal.at.overflow_add-to c).After-wide)
 
 pub overflow_cast-to : goal.overflow_cast-to
 overflow_cast-to c = omega (arith, call-state (goal.at.overflow_cast-to c).After-wide)
 
-pub returns-then-stack-ne0 : goal.returns-then-stack-ne0
-returns-then-stack-ne0 c = rw c.in-Close.is
-    (gathers-as gathers-none (keys-left c.args.state c.args.stack.now c.args.out.now _ (λ e. omega arith)))
+pub returns-then-not-is_empty : goal.returns-then-not-is_empty
+returns-then-not-is_empty c = rw c.in-Close.is
+    (gathers-as gathers-none (keys-left c.args.state c.args.stack.now c.args.out.now _
+    (λ e. let same = eq-eqb (length c.args.stack.now) 0 e in absurd (cc (c.is_empty.ensures, c.if-not-is_empty.true, same)))))
 
 pub overflow_add-to-in-Close : goal.overflow_add-to-in-Close
 overflow_add-to-in-Close c = omega (arith, close-state (goal.at.overflow_add-to-in-Close c).After-wide-in-Close)
@@ -34,18 +34,8 @@ overflow_add-to-in-Close c = omega (arith, close-state (goal.at.overflow_add-to-
 pub overflow_cast-to-in-Close : goal.overflow_cast-to-in-Close
 overflow_cast-to-in-Close c = omega (arith, close-state (goal.at.overflow_cast-to-in-Close c).After-wide-in-Close)
 
-pub returns-in-Mark : goal.returns-in-Mark
-returns-in-Mark c = rw c.in-Mark.is
-    (gathers-as c.put_mark.ensures (keys-mark c.args.state c.args.stack.now c.args.out.now _))
-
 pub returns-in-Call : goal.returns-in-Call
 returns-in-Call c = rw c.in-Call.is
     (gathers-as c.put_row.ensures
     (keys-call c.args.state c.args.stack.now c.args.out.now _ _ _ _ (suited-one (rw c.in-Call.is at c.requires.suited)).1
     c.mark_number-number.ensures (omega (arith, c.wide.ensures.0))))
-
-pub returns-else-stack-ne0 : goal.returns-else-stack-ne0
-returns-else-stack-ne0 c = rw c.in-Close.is
-    (gathers-as c.put_row-in-Close.ensures
-    (keys-close c.args.state c.args.stack.now c.args.out.now _ _ _ _ (omega arith)
-    (omega (arith, c.wide-in-Close.ensures.0))))

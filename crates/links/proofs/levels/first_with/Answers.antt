@@ -1,41 +1,21 @@
 -- `links::levels::first_with` meets its contract. Assumes nothing.
-use Prim.Native.Nat.{◌-◌}
-use native.Mathlib.Omega.{arith}
-use borrow.Author.Count.{below_more}
-use Rattle.session_meaning.specs.Numbers.{level_of}
-use Rattle.links.proofs.Levelled.{seat-after, seat-before}
+use Rattle.std.proofs.Common.{rules, arith, ◌≡◌, ◌+◌, ◌-◌, ap}
+use Rattle.std.proofs.lemmas.Iterator.{first_from_Range}
+use borrow.Author.Tests.{tests}
+use Rattle.session_meaning.specs.Numbers.{seat_at, start_of, level_of}
+use Rattle.links.proofs.Levelled.{found_in, seat-after, seat-before}
 use Rattle.links.proofs.levels.first_with.Goals as goal
 
-pub loop-i-init : goal.loop-i-init
-loop-i-init c = let levels = c.requires.0 in
+pub returns : goal.returns
+returns c =
+    let at = seat_at c.args.bytes.now in
+    let levels = c.requires.0 in
     let level = level_of c.args.above in
     let within = levels.within level in
-    let from = levels.within (level - 1) in (
-      omega (arith, within, levels.graded.few),
-      omega (arith, within),
-      c.start-end.ensures,
-      λ k l e. omega (arith, from, seat-after levels _ k (omega (arith, from)) e),
-    )
-
-pub seat-requires : goal.seat-requires
-seat-requires c = (c.requires.0.graded.whole, omega arith)
-
-pub returns-then-seat-above : goal.returns-then-seat-above
-returns-then-seat-above c = let inv = c.loop-i.invariant in
-    record { within = omega arith; before = inv.3; found = λ l. omega arith }
-
-pub loop-i-preserved : goal.loop-i-preserved
-loop-i-preserved c = let inv = c.loop-i.invariant in
-    (inv.0, inv.1, inv.2, below_more _ _ inv.3 (λ e. omega arith))
-
-pub count-requires : goal.count-requires
-count-requires c = c.requires.0.graded.whole
-
-pub returns : goal.returns
-returns c = let inv = c.loop-i.invariant in
-    let levels = c.requires.0 in
-    record {
-      within = omega arith;
-      before = λ k l e. inv.3 k (omega (arith, seat-before levels _ k (omega arith) e)) e;
-      found = λ l. absurd (omega arith);
-    }
+    let start = start_of c.args.starts.now in
+    let end : start (level - 1 + 1) ≡ start level = ap start (omega arith) in
+    found_in c.find.result (omega arith)
+    (λ k l e. omega (arith, seat-after levels c.args.above k l e))
+    (λ k l e. omega (arith, seat-before levels c.args.above k l e))
+    (first_from_Range _ _ _ c.find.result (λ k. at k ≡ c.args.above) (λ k. at k ≡ c.args.above → ⊥) c.find.ensures.ran
+    (λ x q k. search (rules, tests)) (λ x q k. search (rules, tests)))

@@ -4,4 +4,5 @@ use Rattle.rewrite_lines.proofs.text.put_ending.Goals as goal
 
 pub returns : goal.returns
 returns c =
-    appended-next (appended-next c.put_bytes-second.ensures c.put_field-third.ensures) c.put_last.ensures
+    rw c.from.ensures at
+    (appended-next (appended-next c.put_bytes-second.ensures c.put_field-third.ensures) c.put_last.ensures)

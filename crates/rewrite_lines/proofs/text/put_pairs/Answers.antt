@@ -7,20 +7,18 @@ use Rattle.rewrite_lines.proofs.text.put_pairs.Goals as goal
 pub put_pair-end-requires : goal.put_pair-end-requires
 put_pair-end-requires c =
     let bytes = c.args.bytes.now in
-    let put = c.loop-i.invariant.1 in
+    let put = c.loop-byte.invariant in
     record {
       fits = omega (
         arith,
         hex-long bytes,
-        hex-first bytes c.loop-i.i (omega arith),
+        hex-first bytes c.loop-byte.byte-index (omega arith),
         put.next,
         appended-whole put,
       );
     }
 
-pub loop-i-preserved : goal.loop-i-preserved
-loop-i-preserved c = (
-  omega arith,
-  rw (hex-next c.args.bytes.now c.loop-i.i (omega arith))
-      (appended-next c.loop-i.invariant.1 c.put_pair-end.ensures),
-)
+pub loop-byte-preserved : goal.loop-byte-preserved
+loop-byte-preserved c =
+    rw (hex-next c.args.bytes.now c.loop-byte.byte-index (omega arith))
+    (appended-next c.loop-byte.invariant c.put_pair-end.ensures)

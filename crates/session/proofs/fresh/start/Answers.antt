@@ -1,37 +1,26 @@
 -- `session::fresh::start` meets its contract: the states visited have their links. Assumes nothing.
+use mathlib.Core.Path.{◌≡◌}
 use Prim.Native.Nat.{◌<◌}
 use native.Mathlib.Omega.{arith}
-use Rattle.sets.proofs.Members.{members-le, Turn, turn}
-use Rattle.session_meaning.proofs.Started.{starting-none, starting-more, starting-all}
+use Rattle.sets.proofs.Members.{members-le, visit-done, turn}
+use Rattle.session_meaning.proofs.Started.{starting-more}
 use Rattle.session.proofs.fresh.start.Goals as goal
-use Rattle.session.proofs.fresh.start.Goals.{After-without_lowest-rest}
+use Rattle.session.proofs.fresh.start.Goals.{After-lowest}
 
-pub loop-rest-init : goal.loop-rest-init
-loop-rest-init c = starting-none _ c.clear.ensures
+-- before the end a state is next
+some : (c : After-lowest) → 0 < c.loop-i.rest
+some c =
+    let none : c.loop-i.rest ≡ 0 → ⊥ = λ e. omega (arith, visit-done c.loop-i.invariant.visit e) in
+    omega arith
 
--- the state that is next, and that a link has room
-next : (c : After-without_lowest-rest)
-    → Turn c.args.set c.loop-rest.i c.lowest-state.result
-    c.without_lowest-rest.result
-next c =
-    turn c.loop-rest.invariant.visit (c.lowest-state.ensures.upper_bound (omega arith)).1 c.without_lowest-rest.ensures.0
-
-room : (c : After-without_lowest-rest) → c.loop-rest.i < 64
-room c = omega (arith, (next c).within, members-le c.args.set)
-
-pub overflow_cast-state : goal.overflow_cast-state
-overflow_cast-state c = omega (arith, (c.lowest-state.ensures.upper_bound (omega arith)).0)
+pub overflow_cast-lowest : goal.overflow_cast-lowest
+overflow_cast-lowest c = omega (arith, (c.lowest.ensures.upper_bound (some c)).0)
 
 pub add_start-requires : goal.add_start-requires
-add_start-requires c = omega (arith, room (goal.at.add_start-requires c).After-without_lowest-rest)
+add_start-requires c = omega (arith, members-le c.args.set)
 
-pub overflow_add-i : goal.overflow_add-i
-overflow_add-i c = omega (arith, room (goal.at.overflow_add-i c).After-without_lowest-rest)
-
-pub loop-rest-preserved : goal.loop-rest-preserved
-loop-rest-preserved c =
-    starting-more c.loop-rest.invariant (next (goal.at.loop-rest-preserved c).After-without_lowest-rest)
+pub loop-i-preserved : goal.loop-i-preserved
+loop-i-preserved c =
+    let low = c.lowest.ensures.upper_bound (some (goal.at.loop-i-preserved c).After-lowest) in
+    starting-more c.loop-i.invariant (turn c.loop-i.invariant.visit low.1 c.without_lowest-rest.ensures.0)
     c.add_start.ensures
-
-pub returns : goal.returns
-returns c = starting-all c.loop-rest.invariant (omega arith)

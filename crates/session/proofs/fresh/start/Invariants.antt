@@ -1,8 +1,5 @@
 use Rattle.session_meaning.proofs.Started.{Starting}
 use Rattle.session.proofs.fresh.start.Given as goal
 
-abbrev pub invariant-loop-rest : goal.invariant-loop-rest
-invariant-loop-rest l = Starting l.set l.i l.rest l.session
-
-abbrev pub decreases-loop-rest : goal.decreases-loop-rest
-decreases-loop-rest l = l.rest
+abbrev pub invariant-loop-i : goal.invariant-loop-i
+invariant-loop-i l = Starting l.set l.i l.rest l.session

@@ -1,21 +1,19 @@
 -- `step_drafts::keeping::place` meets its contract. Assumes nothing.
-use mathlib.Core.Path.{◌≡◌}
-use Prim.Native.Nat.{◌+◌, ◌-◌}
+use mathlib.Core.Path.{◌≡◌, ◌∙◌, sym}
+use Prim.Native.Nat.{◌-◌}
 use native.Mathlib.Omega.{arith}
-use Rattle.step_drafts.proofs.Turns.{beneath-none, beneath-upto, beneath-place}
-use Rattle.step_drafts.proofs.Putting.{keys-rise}
+use borrow.Author.Rules.{rules}
+use Rattle.step_drafts.proofs.Putting.{told-below, told-from, place-edge}
 use Rattle.step_drafts.proofs.keeping.place.Goals as goal
 
-pub returns-then-n-eq0 : goal.returns-then-n-eq0
-returns-then-n-eq0 c = beneath-place beneath-none (omega arith) (λ h. absurd (omega arith))
-
-pub returns-then-is_below : goal.returns-then-is_below
-returns-then-is_below c = let e : c.args.n - 1 + 1 ≡ c.args.n = omega arith in
-    beneath-place
-    (rw e at (beneath-upto {work = c.args.work.now} {l = c.args.link} (c.args.n - 1) (keys-rise
-    c.requires.0 c.requires.1) (omega (arith, c.requires.2))
-    (c.is_below.ensures.1 c.if-is_below.true)))
-    (omega arith) (λ h. absurd (omega arith))
+pub returns-then-is_lt : goal.returns-then-is_lt
+returns-then-is_lt c =
+    let lt = told-below c.compare.ensures (sym c.is_lt.ensures ∙ c.if-is_lt.true) in
+    place-edge c.requires.0 c.requires.1 c.requires.2 (omega arith)
+    (λ i e. let f : i ≡ c.args.n - 1 = omega arith in rw f lt) (λ h. absurd (omega arith))
 
 pub returns : goal.returns
-returns c = c.halved.ensures
+returns c =
+    place-edge c.requires.0 c.requires.1 c.requires.2 c.first_not.ensures.within
+    (λ i e. let h = c.first_not.ensures.before i e in search (rules, told-below))
+    (λ l. let h = c.first_not.ensures.onward l in search (rules, told-from))

@@ -2,13 +2,8 @@
 use Rattle.step_drafts.proofs.Rooms.{five-small, drew-moved}
 use Rattle.step_drafts.proofs.moving.carry.Goals as goal
 
-pub write-requires : goal.write-requires
-write-requires c =
-    record {
-      i_bound = (c.requires.1, c.long-long.ensures.1, c.start-at.ensures.1);
-      bytes =
-          (c.requires.2, five-small c.requires.2 c.read-link.ensures);
-    }
+pub write-requires-clause-bytes : goal.write-requires-clause-bytes
+write-requires-clause-bytes c = (c.requires.2, five-small c.requires.2 c.read-link.ensures)
 
 pub returns : goal.returns
 returns c = (

@@ -5,18 +5,14 @@ use Rattle.step_drafts.proofs.Carried.{lifted-none, lifted-more}
 use Rattle.step_drafts.proofs.moving.lift.Goals as goal
 
 pub loop-i-init : goal.loop-i-init
-loop-i-init c = (omega arith, omega arith, lifted-none _ _ _ (omega arith))
-
-pub carry-requires : goal.carry-requires
-carry-requires c = (omega arith, omega arith, c.loop-i.invariant.2.rest.small c.requires.2)
+loop-i-init c = (omega arith, lifted-none _ _ _ (omega arith))
 
 pub loop-i-preserved : goal.loop-i-preserved
 loop-i-preserved c = let carry = c.carry.ensures in (
   omega arith,
-  omega arith,
-  lifted-more _ _ c.loop-i.invariant.2 (omega arith) refl (omega arith) (omega arith) carry.0 carry.1,
+  lifted-more _ _ c.loop-i.invariant.1 (omega arith) refl (omega arith) (omega arith) carry.0 carry.1,
 )
 
 pub returns : goal.returns
 returns c = let e : c.loop-i.i ≡ c.args.at = omega arith in
-    rw (← e) c.loop-i.invariant.2
+    rw (← e) c.loop-i.invariant.1

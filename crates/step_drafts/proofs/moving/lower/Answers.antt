@@ -5,18 +5,11 @@ use Rattle.step_drafts.proofs.Carried.{lowering-none, lowering-more, lowering-al
 use Rattle.step_drafts.proofs.moving.lower.Goals as goal
 
 pub loop-i-init : goal.loop-i-init
-loop-i-init c = (omega arith, refl, lowering-none _ _)
-
-pub carry-requires : goal.carry-requires
-carry-requires c = (omega arith, omega arith, c.loop-i.invariant.2.rest.small c.requires.1)
+loop-i-init c = lowering-none _ _
 
 pub loop-i-preserved : goal.loop-i-preserved
-loop-i-preserved c = let carry = c.carry.ensures in (
-  omega arith,
-  c.loop-i.invariant.1,
-  lowering-more _ c.loop-i.invariant.2 refl (omega arith) carry.0
-      carry.1,
-)
+loop-i-preserved c = let carry = c.carry.ensures in
+    lowering-more _ c.loop-i.invariant refl (omega arith) carry.0 carry.1
 
 pub returns : goal.returns
-returns c = lowering-all _ c.loop-i.invariant.2 (omega arith)
+returns c = lowering-all _ c.loop-i.invariant (omega arith)

@@ -3,7 +3,8 @@ use mathlib.Core.Path.{ap, ◌∙◌}
 use Prim.Native.Nat.{ℕ}
 use native.Mathlib.Omega.{arith}
 use mathlib.Core.List.{List}
-use Rattle.step_drafts.specs.Drafts.{where_start, with_two}
+use Rattle.step_drafts.specs.Drafts.{where_start}
+use Rattle.words.specs.LittleEndian.{with_two}
 use Rattle.step_drafts.proofs.Rooms.{drew}
 use Rattle.step_drafts.proofs.room.write.Goals as goal
 

@@ -1,4 +1,5 @@
 -- `step_drafts::settling::settle` meets its contract. Assumes nothing.
+use mathlib.Core.Path.{refl}
 use native.Mathlib.Omega.{arith}
 use Rattle.step_drafts.proofs.Pushing.{same-levelled}
 use Rattle.step_drafts.proofs.Cut.{ready-graded, settle-cutting, settle-levelled, settle-weighable, settled-to}
@@ -14,12 +15,12 @@ common_on-sent-requires c = let p = c.push.ensures in
 pub cut-requires : goal.cut-requires
 cut-requires c = let p = c.push.ensures in
     let v = same-levelled p.links c.find.ensures in
-    (settle-cutting c.requires p v c.common_on-sent.ensures, v)
+    (settle-cutting c.requires p v c.common_on-sent.ensures.1, v)
 
 pub longest-longest-requires : goal.longest-longest-requires
 longest-longest-requires c = let p = c.push.ensures in
     let v = same-levelled p.links c.find.ensures in
-    let on = c.common_on-sent.ensures in (
+    let on = c.common_on-sent.ensures.1 in (
       settle-levelled c.requires p v on c.cut.ensures,
       settle-weighable c.requires p v on c.cut.ensures,
     )
@@ -27,4 +28,5 @@ longest-longest-requires c = let p = c.push.ensures in
 pub returns : goal.returns
 returns c = let p = c.push.ensures in
     let v = same-levelled p.links c.find.ensures in
-    settled-to c.requires p v c.common_on-sent.ensures c.cut.ensures c.longest-longest.ensures
+    let on = c.common_on-sent.ensures in
+    settled-to c.requires p v on.1 c.cut.ensures refl (omega (arith, on.0)) c.longest-longest.ensures

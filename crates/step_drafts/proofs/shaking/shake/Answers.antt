@@ -14,10 +14,6 @@ use Rattle.step_drafts.proofs.Shaken.{shaking-end}
 use Rattle.step_drafts.proofs.shaking.shake.Goals as goal
 use Rattle.step_drafts.proofs.shaking.shake.Goals.{After-count-i}
 
-pub lift-requires : goal.lift-requires
-lift-requires c = let d = c.requires.kept.1 in
-    (omega arith, omega (arith, d.few, c.count-n.ensures.value.0), d.small)
-
 pub loop-i-init : goal.loop-i-init
 loop-i-init c = shaking-start c.requires.kept.1 c.count-n.ensures.value.0 refl c.lift.ensures _ c.requires.all_at.0
     c.count-i.ensures.value.0
@@ -31,21 +27,10 @@ shaken c {r} {work} h =
     let e = lifted-same c.requires.kept.1 c.count-n.ensures.value.0 refl c.lift.ensures in
     subst (λ (D : List Entry). ShakenTo (shaken_over c.args.session.now c.args.depth D) r work) e h
 
-pub stays-requires : goal.stays-requires
-stays-requires c = let s = c.loop-i.invariant in
-    (omega (arith, s.within, c.requires.kept.0.count), s.drafts, s.rise, s.top)
-
 pub returns-then-first-eq0 : goal.returns-then-first-eq0
 returns-then-first-eq0 c = shaken (goal.at.returns-then-first-eq0 c).After-count-i
     (shaking-full c.requires.kept.0.small c.loop-i.invariant _ (omega arith) (c.stays.ensures.1 c.if-stays.true)
     c.if-first-eq0.true c.loop-i.work)
-
-pub draft_lower-requires : goal.draft_lower-requires
-draft_lower-requires c = let s = c.loop-i.invariant in
-    let left = c.if-first-eq0.false in record {
-      kept = (c.requires.kept.0, omega (arith, s.within), s.drafts);
-      first_nonzero = (omega arith, s.top);
-    }
 
 pub loop-i-preserved-then-stays : goal.loop-i-preserved-then-stays
 loop-i-preserved-then-stays c = let left = c.if-first-eq0.false in
@@ -55,9 +40,6 @@ loop-i-preserved-then-stays c = let left = c.if-first-eq0.false in
 pub loop-i-preserved : goal.loop-i-preserved
 loop-i-preserved c = shaking-past c.requires.kept.0.small c.loop-i.invariant _ (omega arith)
     (denied c.stays.ensures c.if-stays.false)
-
-pub lower-requires : goal.lower-requires
-lower-requires c = let s = c.loop-i.invariant in (s.top, s.drafts.small)
 
 pub returns : goal.returns
 returns c = shaken (goal.at.returns c).After-count-i

@@ -5,6 +5,3 @@ use Rattle.step_drafts.proofs.shaking.shake.Given as goal
 
 abbrev pub invariant-loop-i : goal.invariant-loop-i
 invariant-loop-i l = Shaking l.session l.depth (drafts_in l.initial.work l.initial.first links_cap) l.i l.work l.first
-
-abbrev pub decreases-loop-i : goal.decreases-loop-i
-decreases-loop-i l = l.i

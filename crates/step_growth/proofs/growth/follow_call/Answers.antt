@@ -5,7 +5,6 @@ use lib.ListN.{length}
 use native.Mathlib.Omega.{arith}
 use mathlib.Core.List.{append-nil}
 use Rattle.meaning.specs.Trails.{on}
-use Rattle.table.proofs.Passed.{good-word}
 use Rattle.session_meaning.specs.Bytes.{link_at}
 use Rattle.step_growth.proofs.Gathering.{added}
 use Rattle.step_growth.proofs.Following.{fitting-only}
@@ -18,13 +17,10 @@ over-link-requires c = (
   rw (c.row_to.ensures, c.row_marker.ensures) (fitting-only c.requires.some_grown.1).0,
 )
 
-pub row_word-word-requires : goal.row_word-word-requires
-row_word-word-requires c = good-word _ _ c.requires.usable.0.good c.requires.usable.2
-
-pub add-requires : goal.add-requires
-add-requires c = let word = ap length c.row_word-word.ensures in
+pub add-requires-clause-c_len_bound : goal.add-requires-clause-c_len_bound
+add-requires-clause-c_len_bound c = let word = ap length c.row_word-word.ensures in
     let room = (fitting-only c.requires.some_grown.1).1 in
-    record { some_grown = (c.requires.some_grown.0, c.over-link.ensures.clean); c_len_bound = omega arith }
+    omega arith
 
 pub returns : goal.returns
 returns c = added c.add.ensures

@@ -1,28 +1,31 @@
 -- `step_growth::growth::follow_return` meets its contract: what the links passed give was made. Assumes nothing.
+use mathlib.Core.Path.{refl}
 use native.Mathlib.Omega.{arith}
-use Rattle.step_growth.proofs.Gathering.{passing-start, passing-ready, passing-next}
+use Rattle.session_meaning.specs.Bytes.{link_count}
+use Rattle.step_growth.proofs.Gathering.{passing-ready, passing-next, passing-over}
 use Rattle.step_growth.proofs.Following.{return-fitting, return-end, return-stop}
 use Rattle.step_growth.proofs.growth.follow_return.Goals as goal
 
-pub loop-j-init : goal.loop-j-init
-loop-j-init c = (omega arith, passing-start)
-
 pub returns-then-level : goal.returns-then-level
 returns-then-level c =
-    return-stop c.args.file.now c.args.session.now c.args.i c.args.r c.requires.usable.0 c.loop-j.invariant.1
-    (omega arith) (omega arith)
+    return-stop c.args.file.now c.args.session.now c.args.i c.args.r c.requires.usable.0 c.loop-j.invariant (omega arith)
+    (omega arith)
 
-pub uncover-grown-requires : goal.uncover-grown-requires
-uncover-grown-requires c = let loop = c.loop-j in record {
-  usable = (c.requires.usable.0, c.requires.usable.1, c.requires.usable.2, omega arith);
-  some_grown = (
-    passing-ready loop.invariant.1 c.requires.some_grown.0,
-    return-fitting c.args.file.now c.args.session.now c.args.i c.args.r loop.j (omega arith) c.requires.some_grown.1,
-  );
-}
+pub uncover-requires-clause-some_grown : goal.uncover-requires-clause-some_grown
+uncover-requires-clause-some_grown c = (
+  passing-ready c.loop-j.invariant c.requires.some_grown.0,
+  return-fitting c.args.file.now c.args.session.now c.args.i c.args.r c.loop-j.j (omega arith) c.requires.some_grown.1,
+)
+
+pub returns-in_err-clash : goal.returns-in_err-clash
+returns-in_err-clash c =
+    let over = passing-next c.loop-j.invariant c.in_err-clash.ensures in
+    rw c.from_residual.ensures
+    (return-end c.args.file.now c.args.session.now c.args.i c.args.r
+    (passing-over over (link_count c.args.session.now) (omega arith)) refl)
 
 pub loop-j-preserved : goal.loop-j-preserved
-loop-j-preserved c = (omega arith, passing-next c.loop-j.invariant.1 c.uncover-grown.ensures)
+loop-j-preserved c = passing-next c.loop-j.invariant c.in_ok-clash.ensures
 
 pub returns : goal.returns
-returns c = return-end c.args.file.now c.args.session.now c.args.i c.args.r c.loop-j.invariant.1 (omega arith)
+returns c = return-end c.args.file.now c.args.session.now c.args.i c.args.r c.loop-j.invariant (omega arith)

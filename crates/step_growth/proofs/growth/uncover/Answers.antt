@@ -6,10 +6,9 @@ use Rattle.step_meaning.specs.Stepping.{moved_to}
 use mathlib.Core.List.{[], ◌∷◌, ◌++◌}
 use lib.ListN.{length, length-append}
 use native.Mathlib.Omega.{arith}
-use Rattle.step_growth.specs.Growing.{Fitting, lowered, uncovered}
+use Rattle.step_growth.specs.Growing.{lowered, uncovered}
 use Rattle.step_growth.proofs.Gathering.{added, gathers-none, gathers-as, fitting-as}
-use Rattle.step_growth.proofs.Following.{fitting-only, piece-stands, uncovered-not, uncovered-is}
-use Rattle.table.proofs.Passed.{good-word}
+use Rattle.step_growth.proofs.Following.{fitting-only, uncovered-not, uncovered-is}
 use Rattle.step_growth.proofs.growth.uncover.Goals as goal
 use Rattle.step_growth.proofs.growth.uncover.Goals.{Else-seat-foot}
 
@@ -22,29 +21,13 @@ met : (c : Else-seat-foot)
     ≡ uncovered c.args.file.now c.args.session.now c.args.i c.args.r c.args.j
 met c = uncovered-is c.requires.usable.0 _ _ _ (omega arith)
 
-fitting : (c : Else-seat-foot)
-    → Fitting (lowered c.args.file.now c.args.session.now c.args.i c.args.r c.args.j ∷ [])
-fitting c = fitting-as c.requires.some_grown.1 (sym (met c))
-
-pub moved-link-requires : goal.moved-link-requires
-moved-link-requires c = let plain = (fitting-only (fitting (goal.at.moved-link-requires c).Else-seat-foot)).0 in
-    (c.requires.usable.0.kept, c.requires.usable.3, omega (arith, plain.state, c.row_to.ensures))
-
-pub piece-lower-requires : goal.piece-lower-requires
-piece-lower-requires c = piece-stands c.requires.usable.0 _ c.requires.usable.3
-
-pub piece-upper-requires : goal.piece-upper-requires
-piece-upper-requires c = piece-stands c.requires.usable.0 _ c.requires.usable.1
-
-pub row_word-word-requires : goal.row_word-word-requires
-row_word-word-requires c = good-word _ _ c.requires.usable.0.good c.requires.usable.2
-
-pub add-requires : goal.add-requires
-add-requires c = let lower = ap length c.piece-lower.ensures in
+pub add-requires-clause-c_len_bound : goal.add-requires-clause-c_len_bound
+add-requires-clause-c_len_bound c = let lower = ap length c.piece-lower.ensures in
     let upper = ap length c.piece-upper.ensures in
     let word = ap length c.row_word-word.ensures in
-    let room = simp length-append at (fitting-only (fitting (goal.at.add-requires c).Else-seat-foot)).1 in
-    record { some_grown = (c.requires.some_grown.0, c.moved-link.ensures.clean); c_len_bound = omega arith }
+    let one = sym (met (goal.at.add-requires-clause-c_len_bound c).Else-seat-foot) in
+    let room = simp length-append at (fitting-only (fitting-as c.requires.some_grown.1 one)).1 in
+    omega arith
 
 pub returns : goal.returns
 returns c = gathers-as

@@ -1,11 +1,7 @@
-use Prim.Native.Nat.{ℕ, ◌+◌, ◌-◌, ◌<◌, ◌≤◌}
+use Prim.Native.Nat.{ℕ, ◌+◌, ◌<◌}
 use Rattle.table.specs.File.{row_at}
 use Rattle.table.specs.Calls.{RowBefore}
 use Rattle.table.proofs.read.rows_from.Given as goal
 
 abbrev pub invariant-loop-end : goal.invariant-loop-end
-invariant-loop-end l =
-    (l.first ≤ l.end) × (l.end ≤ l.n) × ((k : ℕ) → k < l.end → RowBefore (row_at l.file k) l.symbol (l.from + 1))
-
-abbrev pub decreases-loop-end : goal.decreases-loop-end
-decreases-loop-end l = l.n - l.end
+invariant-loop-end l = (k : ℕ) → k < l.end → RowBefore (row_at l.file k) l.symbol (l.from + 1)

@@ -1,14 +1,12 @@
--- `words::together` meets its contract: what is left from index i on, taken together with what was passed, makes what
--- the whole makes. Assumes nothing.
-use native.Mathlib.Omega.{arith}
-use Rattle.words.proofs.Below.{passed_start, passed-next, passed-end}
+-- `words::all_bytes::together` meets its contract: the chain folds by or. Assumes nothing.
+use Rattle.std.proofs.Common.{rules, ◌≡◌, ◌∙◌}
+use Rattle.std.specs.List.{fold}
+use Rattle.std.specs.Int.Bits.{bit_or}
+use Rattle.std.proofs.iter.runs.Made.{chains}
+use Rattle.words.proofs.Below.{fold-together}
 use Rattle.words.proofs.all_bytes.together.Goals as goal
 
-pub loop-i-init : goal.loop-i-init
-loop-i-init c = passed_start _
-
-pub loop-i-preserved : goal.loop-i-preserved
-loop-i-preserved c = passed-next c.loop-i.invariant (omega arith)
-
 pub returns : goal.returns
-returns c = passed-end c.loop-i.invariant (omega arith)
+returns c =
+    let folds : c.fold.result ≡ fold bit_or 0 c.args.bytes.now = search (rules, chains) in
+    folds ∙ fold-together 0 c.args.bytes.now

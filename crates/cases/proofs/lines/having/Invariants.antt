@@ -1,9 +1,0 @@
--- At most one is counted for each byte passed.
-use Rattle.std.proofs.Common.{length, ◌-◌, ◌≤◌}
-use Rattle.cases.proofs.lines.having.Given as goal
-
-abbrev pub invariant-loop-i : goal.invariant-loop-i
-invariant-loop-i l = (l.i ≤ length l.bytes) × (l.sum ≤ l.i)
-
-abbrev pub decreases-loop-i : goal.decreases-loop-i
-decreases-loop-i l = length l.bytes - l.i
