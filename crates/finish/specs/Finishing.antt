@@ -7,13 +7,13 @@ use Rattle.session_meaning.specs.Bytes.{link_count, link_at, piece_at}
 abbrev pub final_at : ℕ → List ℕ → ℕ → Bool
 final_at finals session i = is_in finals (link_at session i).here.state
 
--- the first link whose state is
+-- the first link whose state is in a set
 pub record FirstFinal (finals : ℕ) (session : List ℕ) (i : ℕ) : Type 0 where
   pub within : i < link_count session
   pub before : (j : ℕ) → j < i → final_at finals session j ≡ false
   pub here : final_at finals session i ≡ true
 
--- it, if there is one
+-- that link, if there is one
 abbrev pub FoundFinal : ℕ → List ℕ → Option ℕ → Type 0
 FoundFinal finals session (Some i) = FirstFinal finals session i
 FoundFinal finals session None = (j : ℕ) → j < link_count session → final_at finals session j ≡ false

@@ -42,12 +42,7 @@ fn first_final(finals: u64, session: &[u8; SIZE]) -> Option<usize>
     requires { Measured session.now }
     ensures { FoundFinal finals session.now result }
 {
-    for i in 0..links::count(session) {
-        if sets::has(finals, links::state(session, i)) {
-            return Some(i);
-        }
-    }
-    None
+    (0..links::count(session)).find(|i| sets::has(finals, links::state(session, *i)))
 }
 
 // Whether a link has a state outside the set, or the same piece as another.

@@ -45,6 +45,21 @@ fn pair_number(second: &[u8], p: usize, q: usize) -> u8
     (p * table::states(second) + q) as u8
 }
 
+// What all joined rows of a row share: their symbol, their first state, and what their last state is counted from.
+fn shared(first: &[u8], second: &[u8], at: Spot) -> (u8, u8, u8)
+    requires { At first.now second.now at.row at.state }
+    ensures { result ≡ (
+      (row_at first.now at.row).symbol,
+      pair_number (table_of second.now).states (row_at first.now at.row).from at.state,
+      pair_number (table_of second.now).states (row_at first.now at.row).to 0,
+    ) }
+{
+    let symbol = table::row_symbol(first, at.row) as u8;
+    let from = pair_number(second, table::row_from(first, at.row), at.state);
+    let base = pair_number(second, table::row_to(first, at.row), 0);
+    (symbol, from, base)
+}
+
 // What an ending of a call row gives.
 fn call_goal(first: &[u8], second: &[u8], at: Spot, wanted: Wanted) -> Goal
     requires { At first.now second.now at.row at.state }
@@ -54,9 +69,7 @@ fn call_goal(first: &[u8], second: &[u8], at: Spot, wanted: Wanted) -> Goal
     match wanted {
         Wanted::Marks => Goal::Mark { marker },
         Wanted::Rows { count } => {
-            let symbol = table::row_symbol(first, at.row) as u8;
-            let from = pair_number(second, table::row_from(first, at.row), at.state);
-            let base = pair_number(second, table::row_to(first, at.row), 0);
+            let (symbol, from, base) = shared(first, second, at);
             Goal::Call {
                 symbol,
                 from,
@@ -73,9 +86,7 @@ fn close_goal(first: &[u8], second: &[u8], at: Spot, number: usize) -> Goal
     requires { (At first.now second.now at.row at.state) × (number < 256) }
     ensures { result ≡ close_goal first.now second.now at.row at.state number }
 {
-    let symbol = table::row_symbol(first, at.row) as u8;
-    let from = pair_number(second, table::row_from(first, at.row), at.state);
-    let base = pair_number(second, table::row_to(first, at.row), 0);
+    let (symbol, from, base) = shared(first, second, at);
     let marker = number as u8;
     Goal::Close {
         symbol,
@@ -240,7 +251,7 @@ pub fn gather(
     requires marked { Marked wanted first.now second.now marks.now }
     ensures { Shelved (all_keys wanted (table_of first.now) (table_of second.now)) result rows.new }
 {
-    let mut made = start()?;
+    let mut made = start();
     for row in 0..table::row_count(first) {
         made = gather_row(first, second, wanted, row, marks, rows, tape, made)?;
     }

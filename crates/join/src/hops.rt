@@ -78,7 +78,7 @@ fn long_rows(rows: &[u8; SHELF], count: usize) -> bool
     false
 }
 
-// The same with a room of the call's own.
+// `join_in` with a room of the call's own.
 pub fn join(first: &[u8], second: &[u8], out: &mut [u8]) -> Result<usize, Unjoined>
     ensures { JoinedBy first.now second.now out.old result out.new }
 {

@@ -1,6 +1,6 @@
 -- What the parts of the nesting test ask and answer: document 01, "Joining two hops".
 use Rattle.std.specs.Prelude.{◌≡◌, List, ◌++◌, ℕ, ◌<◌, ◌≤◌, Option, Some, None}
-use Rattle.std.proofs.Math.Option.{Option as Level, some, none}
+use Rattle.std.proofs.Math.Option.{Option as Many, some, none}
 use Rattle.words.specs.Lists.{◌among◌}
 use Rattle.words.specs.Words.{Word, Bytes}
 use Rattle.meaning.specs.Table.{Class, unused, call, return, internal, Row, Table}
@@ -16,7 +16,7 @@ pub record Hops (a b : List ℕ) : Type 0 where
   pub second-bytes : Bytes b
 
 -- how many calls are open; none where a return closed nothing, or for a symbol of class 0
-abbrev pub level_of : Option ℕ → Level ℕ
+abbrev pub level_of : Option ℕ → Many ℕ
 level_of None = none
 level_of (Some many) = some many
 

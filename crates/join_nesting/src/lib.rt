@@ -46,10 +46,7 @@ fn closes(second: &[u8], word: &[u8], from: Option<usize>) -> bool
     ensures { result ≡ is_zero
         (and_then (level_of from) (level (table_of second.now).class word.now)) }
 {
-    let Some(many) = from else {
-        return false;
-    };
-    after_word(second, word, many) == Some(0)
+    from.and_then(|many| after_word(second, word, many)) == Some(0)
 }
 
 // Whether a symbol has another class than 0.

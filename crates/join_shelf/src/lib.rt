@@ -32,10 +32,10 @@ pub struct Stock {
 }
 
 // Nothing yet, whatever the lent room holds.
-pub fn start() -> Option<Stock>
-    ensures { Bare result }
+pub fn start() -> Stock
+    ensures { Bare (Some result) }
 {
-    Some(Stock { count: 0, used: 0 })
+    Stock { count: 0, used: 0 }
 }
 
 // Puts a word at its place, unless it is there.

@@ -3,7 +3,7 @@ use mathlib.Core.Path.{◌≡◌, sym, ◌∙◌, ap, subst, refl}
 use mathlib.Core.Logic.{◌⊎◌, inl, inr}
 use mathlib.Core.List.{List}
 use Prim.Native.Nat.{ℕ, zero, suc, ◌+◌, ◌-◌, ◌<◌, ◌≤◌}
-use native.Mathlib.Nat.{eq-or-lt_of_le, eq-zero-or-pos}
+use native.Mathlib.Nat.{eq-or-lt_of_le}
 use native.Mathlib.Omega.{arith}
 use lib.ListN.{length, replicate, get_or, set, length-set, length-replicate}
 use lib.Seq.{get_or-set_same, get_or-set_other}
@@ -11,7 +11,7 @@ use Rattle.words.specs.Words.{Bytes}
 use Rattle.words.proofs.Lists.{below_or, get_or-byte}
 use Rattle.session_meaning.specs.Bytes.{link_start, link_count, link_from, link_at}
 use Rattle.session_meaning.specs.Numbers.{seat_from, foot_from, seat_at, foot_at, start_of, level_of, Graded, Levelled}
-use Rattle.session_meaning.specs.Numbers.{FirstAt, Heaviest}
+use Rattle.session_meaning.specs.Numbers.{Heaviest}
 use Rattle.session_meaning.proofs.Encoded.{get_or-zeros}
 use Rattle.links.proofs.Weighed.{Sought, sought-start, sought-past, sought-all}
 use Rattle.session_meaning.proofs.Started.{same_or}

@@ -117,8 +117,7 @@ pub fn key(bytes: &[u8], i: usize) -> usize
     requires { (head_size ≤ length bytes.now) × (i < 64) }
     ensures { (result ≡ key_at bytes.now i) × (result < keys) }
 {
-    let here = (level(bytes, i) * 256 + state(bytes, i)) * 256 + marker(bytes, i);
-    (here * 256 + state_below(bytes, i)) * 256 + marker_below(bytes, i)
+    key_of(read(bytes, i))
 }
 
 // The same of a link by value.

@@ -83,10 +83,7 @@ fn cut_by(work: &[u8; WORK], starts: &[u8; LEVELS], sent: usize, i: usize) -> us
     if foot == 0 {
         return sent;
     }
-    match levels::first_with(work, starts, foot) {
-        Some(below) => room::handed(work, below),
-        None => sent,
-    }
+    levels::first_with(work, starts, foot).map_or(sent, |below| room::handed(work, below))
 }
 
 // A draft without so many bytes in front.

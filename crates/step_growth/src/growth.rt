@@ -39,13 +39,9 @@ fn moved(session: &[u8; SIZE], i: usize, state: usize) -> Link
     requires { (Kept session.now) × (i < link_count session.now) × (state < 256) }
     ensures { Made (moved_to state (link_at session.now i)) result }
 {
-    let old = links::read(session, i);
     Link {
-        level: old.level,
         state: state as u8,
-        marker: old.marker,
-        state_below: old.state_below,
-        marker_below: old.marker_below,
+        ..links::read(session, i)
     }
 }
 

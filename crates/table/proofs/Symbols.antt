@@ -7,6 +7,8 @@ use Prim.Native.Nat.{ℕ, zero, suc, ◌+◌, ◌-◌, ◌<◌, ◌≤◌}
 use native.Mathlib.Nat.{eq-zero-or-pos}
 use native.Mathlib.Numerals.{add-one}
 use native.Mathlib.Omega.{arith}
+use Rattle.std.specs.Prelude.{Option, Some, None, MatchOption}
+use Rattle.std.specs.Option.{unwrap_or}
 use Rattle.words.specs.Order.{Less}
 use Rattle.meaning.specs.Table.{Row, row_key}
 use Rattle.table.specs.File.{row_count, row_at}
@@ -27,6 +29,13 @@ less-before (inr h) b =
     let e = h.0 in
     let u = first-up h.1 in
     record { symbols = omega arith; froms = λ f. let l = b.froms (omega arith) in omega arith }
+
+-- what stands before those of a state stands before those of the next, and so do those of the state
+before-next : {x : Row} {a q : ℕ} → RowBefore x a q → RowBefore x a (q + 1)
+before-next b = record { symbols = b.symbols; froms = λ e. let h = b.froms e in omega arith }
+
+has-before : {x : Row} {a q : ℕ} → x.symbol ≡ a → x.from ≡ q → RowBefore x a (q + 1)
+has-before s t = record { symbols = omega arith; froms = λ e. omega arith }
 
 module _ (file : List ℕ) (rows : Rows file) where
   before-up : {a q : ℕ} (m k : ℕ) → k ≤ m → m < row_count file → RowBefore (row_at file m) a q
@@ -53,28 +62,35 @@ module _ (file : List ℕ) (rows : Rows file) where
         onward = λ k l m b. next (omega arith) (before-up k n l m b);
       }
 
-  -- the search for where the rows from the next state would stand goes up from the first: all passed stand before
-  -- these, and one that is not of the symbol from the state does not
-  pub stops : {a q n r : ℕ} → FirstRow file a q n → n ≤ r → r < row_count file
-      → ((k : ℕ) → k < r → RowBefore (row_at file k) a (q + 1))
-      → ((row_at file r).symbol ≡ a → (row_at file r).from ≡ q → ⊥) → FirstRow file a (q + 1) r
-  stops {r = r} f l m passed other =
-      turns (omega arith) (λ k e. passed k (omega arith))
+  -- a search up from the first row of a symbol from a state: all passed are of these, and the one it stops at is not
+  stops : {a q n r : ℕ} → FirstRow file a q n → n ≤ r → r ≤ row_count file
+      → ((k : ℕ) → n ≤ k → k < r → ((row_at file k).symbol ≡ a) × ((row_at file k).from ≡ q))
+      → (r < row_count file → (row_at file r).symbol ≡ a → (row_at file r).from ≡ q → ⊥) → FirstRow file a (q + 1) r
+  stops {a} {q} {n} {r} f l m passed other =
+      turns m (λ k e. last k e (eq-zero-or-pos (n - k)))
       (λ w b.
-      f.onward r l m
-      (record { symbols = b.symbols; froms = λ e. let d = other e in let h = b.froms e in omega arith }))
+      f.onward r l w
+      (record { symbols = b.symbols; froms = λ e. let d = other w e in let h = b.froms e in omega arith }))
+    where
+      last : (k : ℕ) → k + 1 ≡ r → (n - k ≡ 0) ⊎ (0 < n - k) → RowBefore (row_at file k) a (q + 1)
+      last k e (inl z) = let h = passed k (omega arith) (omega arith) in has-before h.0 h.1
+      last k e (inr p) = before-next (f.before k (omega arith))
+
+  -- such a search ends where the rows of the next state would stand, at the end of the rows where it finds none
+  pub ends-at : {a q n m : ℕ} (r : Option ℕ) → FirstRow file a q n → m ≡ row_count file
+      → MatchOption r
+      ((k : ℕ) → n ≤ k → k < m → ((row_at file k).symbol ≡ a) × ((row_at file k).from ≡ q))
+      (λ i.
+      (n ≤ i) × (i < m) × ((row_at file i).symbol ≡ a → (row_at file i).from ≡ q → ⊥) ×
+      ((k : ℕ) → n ≤ k → k < i → ((row_at file k).symbol ≡ a) × ((row_at file k).from ≡ q)))
+      → FirstRow file a (q + 1) (unwrap_or r m)
+  ends-at None f e h = let w = f.within in stops f (omega arith) (omega arith) h (λ l. absurd (omega arith))
+  ends-at (Some i) f e h = stops f h.0 (omega (arith, h.1)) h.3 (λ l. h.2)
 
 -- no row before the first is of the symbol from the state
 pub none_before : {file : List ℕ} {a q n : ℕ} → FirstRow file a q n → (k : ℕ) → k < n → (row_at file k).symbol ≡ a
     → (row_at file k).from ≡ q → ⊥
 none_before f k l s t = let b = (f.before k l).froms s in omega arith
-
--- what stands before those of a state stands before those of the next, and so do those of the state
-before-next : {x : Row} {a q : ℕ} → RowBefore x a q → RowBefore x a (q + 1)
-before-next b = record { symbols = b.symbols; froms = λ e. let h = b.froms e in omega arith }
-
-has-before : {x : Row} {a q : ℕ} → x.symbol ≡ a → x.from ≡ q → RowBefore x a (q + 1)
-has-before s t = record { symbols = omega arith; froms = λ e. omega arith }
 
 -- the rows of a symbol from a state are those of their part, and no others
 module _ {file : List ℕ} {a q : ℕ} {start end : ℕ} (f : RowsFrom file a q start end) where

@@ -7,8 +7,7 @@ mod read;
 
 pub use parts::{
     CLASS_COUNT, CLASSES_ENTRY, CLASSES_START, FINAL_ENTRY, FINAL_START, HEAD_SIZE, ROW_SIZE,
-    ROWS_ENTRY, ROWS_LENGTH_AT, ROWS_START, SET_SIZE, STARTING_ENTRY, STARTING_START, WORDS_ENTRY,
-    WORDS_LENGTH_AT,
+    ROWS_ENTRY, ROWS_START, SET_SIZE, STARTING_ENTRY, STARTING_START, WORDS_ENTRY, WORDS_LENGTH_AT,
 };
 pub use read::{
     Class, class_of, depth_cap, final_set, first_row, markers, row_class, row_count, row_from,

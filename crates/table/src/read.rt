@@ -1,5 +1,6 @@
 // What a good file says. These ask for a file that `check` took, and for a row that is there.
-ghost use Rattle.std.specs.Prelude.{◌≡◌, ◌<◌};
+ghost use Rattle.std.specs.Prelude.{◌≡◌, ◌<◌, ◌≤◌, length};
+ghost use Rattle.meaning.specs.Parts.{classes_start};
 ghost use Rattle.words.specs.Lists.{Exact};
 ghost use Rattle.table.specs.File.{row_count, row_at, word_of, table_of};
 ghost use Rattle.sets.specs.Sets.{members};
@@ -84,8 +85,9 @@ pub fn class_of(file: &[u8], symbol: u8) -> Class
     Class::from(file[CLASSES_START + wide(symbol)])
 }
 
+// Asks only for the entries, so that the check of a file can count its rows too.
 pub fn row_count(file: &[u8]) -> usize
-    requires { GoodFile first_edition file.now }
+    requires { classes_start ≤ length file.now }
     ensures { result ≡ row_count file.now }
 {
     load_two(file, ROWS_LENGTH_AT) / ROW_SIZE
@@ -133,8 +135,7 @@ pub fn row_word(file: &[u8], i: usize) -> &[u8]
     ensures { result.now ≡ word_of file.now i }
 {
     let at = ROWS_START + ROW_SIZE * i;
-    let count = load_two(file, ROWS_LENGTH_AT) / ROW_SIZE;
-    let start = ROWS_START + ROW_SIZE * count + load_two(file, at + 4);
+    let start = ROWS_START + ROW_SIZE * row_count(file) + load_two(file, at + 4);
     let end = start + wide(file[at + 6]);
     &file[start..end]
 }
@@ -144,11 +145,7 @@ fn row_before(file: &[u8], i: usize, symbol: u8, from: usize) -> bool
     requires { (GoodFile first_edition file.now) × (i < row_count file.now) }
     ensures { Exact (RowBefore (row_at file.now i) symbol from) result }
 {
-    let a = row_symbol(file, i);
-    if a != wide(symbol) {
-        return a < wide(symbol);
-    }
-    row_from(file, i) < from
+    (row_symbol(file, i), row_from(file, i)) < (wide(symbol), from)
 }
 
 // The place of the first row of a symbol from a state, or where it would stand: rows rise by symbol and then by `from`,
@@ -167,10 +164,8 @@ pub fn rows_from(file: &[u8], symbol: u8, from: usize) -> Range<usize>
 {
     let start = first_row(file, symbol, from);
     let n = row_count(file);
-    for end in start..n {
-        if row_symbol(file, end) != wide(symbol) || row_from(file, end) != from {
-            return start..end;
-        }
-    }
-    start..n
+    let end = (start..n)
+        .find(|r| row_symbol(file, *r) != wide(symbol) || row_from(file, *r) != from)
+        .unwrap_or(n);
+    start..end
 }

@@ -6,8 +6,8 @@ ghost use Rattle.table.specs.Good.{first_edition, Head, FileEntry, Contents, Cla
 
 use table::{
     CLASS_COUNT, CLASSES_ENTRY, CLASSES_START, FINAL_ENTRY, FINAL_START, HEAD_SIZE, ROW_SIZE,
-    ROWS_ENTRY, ROWS_LENGTH_AT, ROWS_START, SET_SIZE, STARTING_ENTRY, STARTING_START, WORDS_ENTRY,
-    WORDS_LENGTH_AT,
+    ROWS_ENTRY, ROWS_START, SET_SIZE, STARTING_ENTRY, STARTING_START, WORDS_ENTRY, WORDS_LENGTH_AT,
+    row_count,
 };
 use words::{load_eight, load_two, together, wide};
 
@@ -52,7 +52,7 @@ pub fn contents(file: &[u8]) -> bool
     if file.len() < CLASSES_START {
         return false;
     }
-    let rows = load_two(file, ROWS_LENGTH_AT) / ROW_SIZE;
+    let rows = row_count(file);
     let bytes = load_two(file, WORDS_LENGTH_AT);
     entry(file, CLASSES_ENTRY, CLASSES_START, CLASS_COUNT)
         && entry(file, STARTING_ENTRY, STARTING_START, SET_SIZE)

@@ -6,9 +6,7 @@ ghost use Rattle.table.specs.File.{row_at};
 ghost use Rattle.table.specs.Good.{first_edition, Contents, MarkAt, RowFits, Rising, Rows};
 ghost use Rattle.table.specs.Calls.{meant, RowIn, WordIn, Headed};
 
-use table::{
-    CLASSES_START, Class, ROW_SIZE, ROWS_LENGTH_AT, ROWS_START, WORDS_LENGTH_AT, row_word,
-};
+use table::{CLASSES_START, Class, ROW_SIZE, ROWS_START, WORDS_LENGTH_AT, row_count, row_word};
 use words::{compare, load_two, wide};
 
 // Whether a marker suits a class.
@@ -17,7 +15,7 @@ fn mark_suits(class: Class, markers: usize, marker: usize) -> bool
 {
     match class {
         Class::Unused => false,
-        Class::Call | Class::Return => 0 < marker && marker <= markers,
+        Class::Call | Class::Return => (1..=markers).contains(&marker),
         Class::Internal => marker == 0,
     }
 }
@@ -71,7 +69,7 @@ pub fn rows(file: &[u8]) -> bool
     requires { Contents first_edition file.now }
     ensures { Exact (Rows file.now) result }
 {
-    let n = load_two(file, ROWS_LENGTH_AT) / ROW_SIZE;
+    let n = row_count(file);
     if n == 0 {
         return true;
     }

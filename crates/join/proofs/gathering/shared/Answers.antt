@@ -1,6 +1,6 @@
--- `join::gathering::call_goal` meets its contract. Assumes nothing.
+-- `join::gathering::shared` meets its contract. Assumes nothing.
 use Rattle.join.proofs.Given.{from_byte, to-byte}
-use Rattle.join.proofs.gathering.call_goal.Goals as goal
+use Rattle.join.proofs.gathering.shared.Goals as goal
 
 pub pair_number-from-requires : goal.pair_number-from-requires
 pair_number-from-requires c = (c.requires.small.hops.second, from_byte c.requires c.row_from.ensures)
