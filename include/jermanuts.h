@@ -1,7 +1,7 @@
 /* Jermanuts: nested messages rewritten by rule table, one symbol at a time.
  *
  * Link with libface.a. The library keeps nothing between calls, allocates nothing, calls nothing
- * but memmove and memset, and touches nothing but what it is lent. Every call takes any bytes: a bad
+ * but memcpy and memset, and touches nothing but what it is lent. Every call takes any bytes: a bad
  * table, or a session that is not sound, is refused by its number.
  *
  * Of all functions:

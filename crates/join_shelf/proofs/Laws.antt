@@ -1,5 +1,5 @@
 -- What holds of a shelf: at the start, and with more words put on it; that it stays full. Assumes nothing.
-use mathlib.Core.Path.{◌≡◌, ap, subst}
+use mathlib.Core.Path.{◌≡◌, sym, ap, subst}
 use mathlib.Core.Logic.{◌⊎◌, inl, inr}
 use mathlib.Core.List.{List, [], ◌∷◌, ◌++◌, append-nil, append_assoc}
 use Prim.Native.Nat.{ℕ, ◌<◌, ◌≤◌}
@@ -57,6 +57,10 @@ module _ {room : List ℕ} {s : Option Stock} where
   pub gathers-full : (more : List Word) {room' : List ℕ} → s ≡ None
       → Gathers more room s None room'
   gathers-full more e made h = shelved-full (outgrown-more made more (h.full e))
+
+  pub gathers-still : (more : List Word) → s ≡ None → Gathers more room s s room
+  gathers-still more e made h =
+      subst (λ (r : Option Stock). Shelved (made ++ more) r room) (sym e) (gathers-full more e made h)
 
   module _ {A room' : List _} {s' : Option Stock}
       (a : Gathers A room s s' room') where

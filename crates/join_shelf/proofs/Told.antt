@@ -47,8 +47,8 @@ module _ {words : List Word} {room room' : List ℕ} where
           λ i. Some (record { count = counts i; used = bytes i })
 
 -- `start`
-pub start-unique : {r q : Stock} → Bare (Some r) → Bare (Some q) → r ≡ q
-start-unique {r} {q} a b = let e : Some r ≡ Some q = (shelved-unique _ _ (a []) (b [])).same in cc
+pub start-unique : {r q : Option Stock} → Bare r → Bare q → r ≡ q
+start-unique a b = (shelved-unique _ _ (a []) (b [])).same
 
 -- `put`, and whatever puts words
 pub gathers-unique : {more : List Word} {room : List ℕ} {s : Option Stock} → SomeShelved room s

@@ -1,6 +1,5 @@
 -- Where the place of a word is: the words before it stand below, and the one there does not. Assumes nothing.
 use mathlib.Core.Path.{◌≡◌, sym, ◌∙◌, ap}
-use mathlib.Core.Bool.{Bool, true, false, true≢false}
 use mathlib.Core.Logic.{◌⊎◌, inl, inr}
 use mathlib.Core.List.Memᴰ
 use mathlib.Core.List.{List}
@@ -9,7 +8,6 @@ use native.Mathlib.Nat.{eq-or-lt_of_le}
 use native.Mathlib.Omega.{arith}
 use Rattle.words.specs.Lists.{up_to}
 use Rattle.words.specs.Words.{Word}
-use Rattle.std.specs.Ordering.{is_gt}
 use Rattle.std.specs.declared.cmp.Ordering.{Ordering}
 use Rattle.std.specs.declared.cmp.Ordering.TheVariants.{Less as Less', Equal, Greater}
 use Rattle.words.specs.Order.{Less, side, rank}
@@ -67,15 +65,17 @@ module _ {room : List ℕ} {count : ℕ} (s : Standing room count) where
             (rank-at w at count r (omega arith) (sym (ap at d ∙ e)) (λ j h f.
             less-self w (rw (← f) at (before-edge j h))))
 
--- where a word stands above another or not, by the answer of a comparison
-pub told-above : (w u v : Word) (r : Ordering) {b : Bool} → v ≡ u → side_of r ≡ side w v → b ≡ is_gt r → true ≡ b
-    → Less u w
-told-above w u v Less' f e g h = absurd (true≢false (h ∙ g))
-told-above w u v Equal f e g h = absurd (true≢false (h ∙ g))
-told-above w u v Greater f e g h = rw f at (side-upper w v (sym e))
+  -- and where it stands, that is its place
+  pub found-place : (w : Word) (r : ℕ) → r < count → w ≡ at r → WordPlace room count w r
+  found-place w r l e =
+      edge-place w r (omega arith) (λ i h. rw e (words-rise i r (omega arith) l)) (λ k less. less-self w (rw (← e) at less))
 
-pub told-not-above : (w u v : Word) (r : Ordering) {b : Bool} → v ≡ u → side_of r ≡ side w v → b ≡ is_gt r
-    → false ≡ b → Less u w → ⊥
-told-not-above w u v Less' f e g h l = less-self w (less-trans w v w (side-lower w v (sym e)) (rw (← f) at l))
-told-not-above w u v Equal f e g h l = less-self w (rw (← f, ← side_same w v (sym e)) at l)
-told-not-above w u v Greater f e g h l = absurd (true≢false (sym (h ∙ g)))
+-- where a word stands to another, by the answer of a comparison
+pub told-behind : (w u v : Word) (r : Ordering) → v ≡ u → side_of r ≡ side w v → Greater ≡ r → Less u w
+told-behind w u v r f e g = rw f at (side-upper w v (sym e ∙ ap side_of (sym g)))
+
+pub told-here : (w u v : Word) (r : Ordering) → v ≡ u → side_of r ≡ side w v → Equal ≡ r → w ≡ u
+told-here w u v r f e g = side_same w v (sym e ∙ ap side_of (sym g)) ∙ f
+
+pub told-before : (w u v : Word) (r : Ordering) → v ≡ u → side_of r ≡ side w v → Less' ≡ r → Less w u
+told-before w u v r f e g = rw f at (side-lower w v (sym e ∙ ap side_of (sym g)))

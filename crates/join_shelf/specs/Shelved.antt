@@ -1,7 +1,7 @@
 -- A shelf: words, each once and in rising byte order, in a room that the caller lends. Their bytes stand from its start
 -- on, one after the other as they came; behind the room for them stands where the word of each slot starts, in two
 -- bytes, and behind that which slot is read first, second, and so on.
-use Rattle.std.specs.Prelude.{◌≡◌, ◌⊎◌, List, [], ◌∷◌, ◌++◌, map, ℕ, ◌+◌, ◌*◌, ◌<◌, ◌≤◌, length, get_or, take, Option, Some, None}
+use Rattle.std.specs.Prelude.{◌≡◌, ◌⊎◌, List, [], ◌∷◌, ◌++◌, map, ℕ, ◌+◌, ◌*◌, ◌<◌, ◌≤◌, length, get_or, take, Option, Some, None, Result, Ok, Err}
 use Rattle.std.proofs.Math.Seq.{slice}
 use Rattle.words.specs.Lists.{◌among◌, up_to}
 use Rattle.words.specs.Words.{Word}
@@ -90,6 +90,11 @@ pub record WordPlace (room : List ℕ) (count : ℕ) (w : Word) (at : ℕ) : Typ
   pub onward : (i : ℕ) → at ≤ i → i < count → Less (word_at room i) w → ⊥
   pub ranked : w among words_of room count
       → at ≡ rank (λ (v : Word). v) (words_of room count) w
+
+-- a search for a word ends at it, or where it would stand
+pub record Sought (room : List ℕ) (count : ℕ) (w : Word) (r : Result ℕ ℕ) : Type 0 where
+  pub found : (at : ℕ) → r ≡ Ok at → WordPlace room count w at × (at < count) × (w ≡ word_at room at)
+  pub missed : (at : ℕ) → r ≡ Err at → WordPlace room count w at × (at < count → w ≡ word_at room at → ⊥)
 
 -- the bytes of a word were laid behind those in use, in the slot after those in use
 pub record Stored (room : List ℕ) (count used : ℕ) (w : Word) (end : ℕ) (room' : List ℕ) : Type 0 where

@@ -3,16 +3,15 @@
 #![tactic(auto)]
 
 ghost use Rattle.std.specs.Prelude.{◌≡◌, ◌∷◌, [], ◌++◌, ◌+◌, ◌*◌, ◌≤◌, ◌<◌, length, Some};
-ghost use Rattle.words.specs.Lists.{Exact};
 ghost use Rattle.words.specs.Order.{side};
 ghost use Rattle.words.specs.Calls.{side_of};
 ghost use Rattle.join_shelf.specs.Shelved.{start_of, word_at, Stands, Standing, Bare, SomeShelved, Gathers};
-ghost use Rattle.join_shelf.specs.Shelved.{WordPlace};
+ghost use Rattle.join_shelf.specs.Shelved.{WordPlace, Sought};
 ghost use Rattle.join_shelf.specs.Shelved.{Stored};
 ghost use Rattle.join_shelf.specs.Shelved.{SameOrder};
 
 use std::cmp::Ordering;
-use words::{compare, copy, first_not, insert, load_two, wide};
+use words::{compare, copy, insert, load_two, sought, wide};
 
 // The room: the bytes of all words, as they came; from `STARTS` on where the word of each slot starts, in two bytes;
 // from `ORDER` on which slot is read first, second, and so on.
@@ -65,13 +64,24 @@ fn start_of(room: &[u8], k: usize) -> usize
     load_two(room, STARTS + 2 * k)
 }
 
+// Where a word stands, or where it would.
+fn seek(room: &[u8; SHELF], count: usize, head: &[u8], tail: &[u8]) -> Result<usize, usize>
+    requires { Standing room.now count }
+    ensures { Sought room.now count (head.now ++ tail.now) result }
+{
+    sought(count, |i| against(head, tail, word(room, i)))
+}
+
 // How many words come before a word.
 pub fn place(room: &[u8; SHELF], count: usize, head: &[u8], tail: &[u8]) -> usize
     requires { Standing room.now count }
     ensures { WordPlace room.now count
         (head.now ++ tail.now) result }
 {
-    first_not(count, |i| against(head, tail, word(room, i)).is_gt())
+    match seek(room, count, head, tail) {
+        Ok(at) => at,
+        Err(at) => at,
+    }
 }
 
 // Where a word in two parts stands to another.
@@ -89,15 +99,6 @@ fn against(head: &[u8], tail: &[u8], word: &[u8]) -> Ordering
     }
 }
 
-// Whether a word stands at a place.
-fn stands(room: &[u8; SHELF], count: usize, at: usize, head: &[u8], tail: &[u8]) -> bool
-    requires { Standing room.now count }
-    ensures { Exact ((at < count) × (head.now ++ tail.now
-        ≡ word_at room.now at)) result }
-{
-    at < count && against(head, tail, word(room, at)).is_eq()
-}
-
 // The same as `put`, on a shelf that is not full.
 fn put_in(room: &mut [u8; SHELF], stock: Stock, head: &[u8], tail: &[u8]) -> Option<Stock>
     requires { SomeShelved room.old (Some stock) }
@@ -106,10 +107,9 @@ fn put_in(room: &mut [u8; SHELF], stock: Stock, head: &[u8], tail: &[u8]) -> Opt
         result room.new }
 {
     let Stock { count, used } = stock;
-    let at = place(room, count, head, tail);
-    if stands(room, count, at, head, tail) {
+    let Err(at) = seek(room, count, head, tail) else {
         return Some(stock);
-    }
+    };
     if count == 256 {
         return None;
     }

@@ -40,8 +40,11 @@ pub fn links(file: &[u8], session: &[u8]) -> bool
 {
     let mut least = 0;
     for i in 0..links::count(session) {
+        if !link_fits(file, session, i) {
+            return false;
+        }
         let key = links::key(session, i);
-        if !link_fits(file, session, i) || key < least {
+        if key < least {
             return false;
         }
         least = key + 1;

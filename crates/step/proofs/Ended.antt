@@ -3,7 +3,8 @@ use mathlib.Core.Path.{◌≡◌, sym, ◌∙◌, ap, subst}
 use mathlib.Core.Logic.{◌⊎◌, inl, inr}
 use mathlib.Core.List.Memᴰ
 use mathlib.Core.List.{List, ◌∷◌, [], ◌++◌}
-use Prim.Native.Nat.{ℕ, ◌-◌, ◌<◌, ◌≤◌}
+use Prim.Native.Nat.{ℕ, ◌+◌, ◌-◌, ◌<◌, ◌≤◌}
+use native.Mathlib.Nat.{add-sub_cancel_left}
 use native.Mathlib.Omega.{arith}
 use lib.ListN.{length, take, drop, length-drop}
 use lib.Seq.{length-take-le}
@@ -146,10 +147,13 @@ module _ {file session work : List ℕ} {symbol depth : ℕ} (d : Left file sess
     are = s.are ∙ ap (λ (K : List Entry). cut (push K)) d.are
 
     abbrev part : Word
-    part = take (r.sent.end - r.sent.start) (drop r.sent.start work')
+    part = take (r.at + r.length - r.at) (drop r.at work')
 
     sent_is : part ≡ sent (T l) (S l) symbol
-    sent_is = s.sent ∙ ap (λ (K : List Entry). base (push K) (0 ∷ [])) d.are
+    sent_is =
+        ap (λ (k : ℕ). take k (drop r.at work')) (add-sub_cancel_left r.at r.length)
+        ∙ s.sent
+        ∙ ap (λ (K : List Entry). base (push K) (0 ∷ [])) d.are
 
     waiting : r.longest ≡ longest (stepped (T l) (S l) symbol).entries
     waiting = s.longest ∙ ap (λ (K : List Entry). longest (cut (push K))) d.are

@@ -43,11 +43,15 @@ pub fn step_in(
     }
     let depth = admit(file, session, symbol)?;
     draft(file, session, symbol, depth, work)?;
-    let Settled { sent, longest } = settle(work);
+    let Settled {
+        at,
+        length,
+        longest,
+    } = settle(work);
     if table::waiting_cap(file) < longest {
         return Err(Refusal::Backlog);
     }
-    let sent = &work[sent];
+    let sent = &work[at..at + length];
     let count = sent.len();
     if out.len() < count {
         return Err(Refusal::NoRoom);

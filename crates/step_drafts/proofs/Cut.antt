@@ -7,7 +7,6 @@ use Prim.Native.Nat.{ℕ, zero, suc, ◌+◌, ◌-◌, ◌/◌, ◌%◌, ◌<◌
 use native.Mathlib.Omega.{arith}
 use lib.ListN.{length, take, drop, length-append}
 use lib.Seq.{drop-drop, take-nil}
-use Rattle.std.specs.declared.ops.Range.{Range}
 use Rattle.words.specs.Lists.{up_to}
 use Rattle.words.specs.Words.{Word, Bytes}
 use Rattle.words.specs.Order.{Less}
@@ -366,10 +365,9 @@ module _ {work : List ℕ} (r : Ready work) where
                 ∙ r.plain i (omega arith) (sym (ap (λ (l : Link). l.level) e) ∙ z);
           }
 
-      pub settled-to : {part : Range ℕ} {most : ℕ} → part.start ≡ at → part.end ≡ at + long
-          → most ≡ longest_of (weights done) → SettledTo work (record { sent = part; longest = most }) done
-      settled-to {part} {most} first last e =
-          let size : part.end - part.start ≡ long = omega arith in
+      pub settled-to : {most : ℕ} → most ≡ longest_of (weights done)
+          → SettledTo work (record { at = at; length = long; longest = most }) done
+      settled-to {most} e =
           let m = same_count links in
           let few = r.drafts.few in
           record {
@@ -379,11 +377,8 @@ module _ {work : List ℕ} (r : Ready work) where
             are = are;
             below = λ i l. same_none links i (omega arith) (r.drafts.below i (omega arith) l);
             lies = λ i l. cut-lies p.drafts enough c i (omega (arith, n));
-            ordered = omega arith;
-            part = omega (arith, common.lies);
-            sent =
-                rw (size, first)
-                (piece-same pushed at long done c.links.whole (λ k h. slots k h) ∙ sent_is);
+            part = common.lies;
+            sent = piece-same pushed at long done c.links.whole (λ k h. slots k h) ∙ sent_is;
             longest =
                 e
                 ∙ ap longest_of (sym (weights-are done (links.whole ∙ r.drafts.whole)

@@ -313,7 +313,6 @@ pub record SettledTo (work : List ℕ) (r : Settled) (work' : List ℕ) : Type 0
   pub are : drafts_of work' ≡ cut (push (drafts_of work))
   pub below : (i : ℕ) → i < link_count work → NoneBelow work' (link_start i)
   pub lies : (i : ℕ) → i < link_count work → Lies work' i
-  pub ordered : r.sent.start ≤ r.sent.end
-  pub part : r.sent.end ≤ work_size
-  pub sent : take (r.sent.end - r.sent.start) (drop r.sent.start work') ≡ base (push (drafts_of work)) (0 ∷ [])
+  pub part : r.at + r.length ≤ work_size
+  pub sent : take r.length (drop r.at work') ≡ base (push (drafts_of work)) (0 ∷ [])
   pub longest : r.longest ≡ longest (cut (push (drafts_of work)))

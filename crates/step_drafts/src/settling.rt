@@ -14,10 +14,11 @@ use links::levels::{LEVELS, PAIRS};
 use std::ops::Range;
 use words::common_length;
 
-// What is to be sent, as a part of the room, and how long the longest output is that then waits.
-#[derive(Drop)]
+// What is to be sent, so many bytes of the room from a place on, and how long the longest output is that then waits.
+#[derive(Clone, Copy)]
 pub struct Settled {
-    pub sent: Range<usize>,
+    pub at: usize,
+    pub length: usize,
     pub longest: usize,
 }
 
@@ -117,7 +118,12 @@ pub fn settle(work: &mut [u8; WORK]) -> Settled
     levels::find(work, &mut starts);
     push(work, &starts);
     let sent = common_on(work, &starts, 0);
-    cut(work, &starts, sent.end - sent.start);
+    let length = sent.end - sent.start;
+    cut(work, &starts, length);
     let longest = links::weigh::longest(work, &starts);
-    Settled { sent, longest }
+    Settled {
+        at: sent.start,
+        length,
+        longest,
+    }
 }

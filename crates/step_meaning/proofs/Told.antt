@@ -13,6 +13,7 @@ use borrow.Author.Tests.{eqb-true, eqb-false, ltb-false}
 use Rattle.words.specs.Lists.{◌among◌}
 use Rattle.words.specs.Words.{Word, Bytes}
 use Rattle.std.specs.Prelude.{Result}
+use Rattle.numbers.specs.Numbers.{number_of, count_of}
 use Rattle.numbers.specs.declared.Refusal.{Refusal}
 use Rattle.numbers.proofs.Told.{answer-same}
 use Rattle.meaning.specs.Table.{Table, edition1, GoodTable}
@@ -191,6 +192,16 @@ module _ (file session : List ℕ) (symbol : ℕ) (out : List ℕ) where
   pub answered-unique : (r q : Result ℕ Refusal) {s s' o o' : List ℕ} → Answered file session symbol out r s o
       → Answered file session symbol out q s' o' → (r ≡ q) × (s ≡ s') × (o ≡ o')
   answered-unique r q a b = let u = stepped-unique a b in (answer-same r q u.0 u.1, u.2, u.3)
+
+-- an answer that is known by its number and count meets the contract of that number
+pub answered : {file session : List ℕ} {symbol : ℕ} {out session' out' : List ℕ} (r : Result ℕ Refusal) {n k : ℕ}
+    → (number_of r ≡ n) × (count_of r ≡ k) → Stepped file session symbol out n k session' out'
+    → Answered file session symbol out r session' out'
+answered r e s = rw (e.0, e.1) s
+
+pub ended : {file session out out' : List ℕ} (r : Result ℕ Refusal) {n k : ℕ} → (number_of r ≡ n) × (count_of r ≡ k)
+    → Finished file session out n k out' → Ended file session out r out'
+ended r e s = rw (e.0, e.1) s
 
 -- finish: two numbers that meet its contract on the same lists are the same; so are two answers
 pub finished-unique : (file session out : List ℕ) {n n' c c' : ℕ} {o o' : List ℕ} → Finished file session out n c o

@@ -145,7 +145,8 @@ fn row_before(file: &[u8], i: usize, symbol: u8, from: usize) -> bool
     requires { (GoodFile first_edition file.now) × (i < row_count file.now) }
     ensures { Exact (RowBefore (row_at file.now i) symbol from) result }
 {
-    (row_symbol(file, i), row_from(file, i)) < (wide(symbol), from)
+    let here = row_symbol(file, i);
+    here < wide(symbol) || here == wide(symbol) && row_from(file, i) < from
 }
 
 // The place of the first row of a symbol from a state, or where it would stand: rows rise by symbol and then by `from`,

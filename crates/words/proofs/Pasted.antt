@@ -1,13 +1,40 @@
--- A part written into a list: what stands where after it. Assumes nothing.
-use mathlib.Core.Path.{◌≡◌, ◌∙◌, ap}
+-- A part written into a list: what stands where after it, and on the way. Assumes nothing.
+use mathlib.Core.Path.{◌≡◌, refl, ◌∙◌, ap}
 use mathlib.Core.Logic.{◌⊎◌, inl, inr}
 use mathlib.Core.List.{List, [], ◌∷◌, ◌++◌}
 use Prim.Native.Nat.{ℕ, ◌+◌, ◌-◌, ◌<◌, ◌≤◌}
 use native.Mathlib.Omega.{arith}
 use native.Mathlib.Numerals.{add-one}
-use lib.ListN.{length, get_or, set, take, drop, get_or-append}
-use lib.Seq.{get_or-take, get_or-drop, get_or-append-add, length-take-le, paste}
+use lib.ListN.{length, get_or, set, take, drop, length-set, get_or-append}
+use lib.Seq.{get_or-take, get_or-drop, get_or-append-add, length-take-le, paste, paste-zero, paste-suc}
 use lib.Seq.{length-paste, length_paste_head, sets-eq}
+
+-- what the first bytes of a part leave where they are written, one after the other
+pub record Pasting (to₀ : List ℕ) (at : ℕ) (part : List ℕ) (i : ℕ) (to : List ℕ) : Type 0 where
+  pub room : at + length part ≤ length to₀
+  pub behind : i ≤ length part
+  pub is : to ≡ paste to₀ at part i
+  pub whole : length to ≡ length to₀
+
+pub pasting-none : (to : List ℕ) (at : ℕ) (part : List ℕ) → at + length part ≤ length to → Pasting to at part 0 to
+pasting-none to at part le =
+    record { room = le; behind = omega arith; is = paste-zero to at part; whole = refl }
+
+pub pasting-more : {to₀ : List ℕ} {at : ℕ} {part : List ℕ} {i : ℕ} {to : List ℕ} → Pasting to₀ at part i to
+    → i < length part → (b : ℕ) → b ≡ get_or part i 0 → Pasting to₀ at part (i + 1) (set to (at + i) b)
+pasting-more {to₀} {at} {part} {i} {to} p lt b e =
+    record {
+      room = p.room;
+      behind = omega arith;
+      is = rw (e, p.is, add-one) (paste-suc to₀ at part i 0 (omega (arith, p.room)) lt);
+      whole = length-set to (at + i) b ∙ p.whole;
+    }
+
+pub pasting-all : {to₀ : List ℕ} {at : ℕ} {part : List ℕ} {i : ℕ} {to : List ℕ} → Pasting to₀ at part i to
+    → length part ≤ i → to ≡ paste to₀ at part (length part)
+pasting-all {to₀} {at} {part} {i} p le =
+    let e : i ≡ length part = omega (arith, p.behind) in
+    rw (← e) p.is
 
 -- what stands where when all is written
 pub record Pasted (to : List ℕ) (at : ℕ) (part to' : List ℕ) : Type 0 where

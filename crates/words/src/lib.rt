@@ -15,7 +15,7 @@ ghost use Rattle.std.specs.Prelude.{◌≡◌, ◌<◌};
 pub use all_bytes::{together, zeros};
 pub use beginning::common_length;
 pub use byte_order::compare;
-pub use halves::first_not;
+pub use halves::{first_not, sought};
 pub use little_endian::{load_eight, load_two, store_two};
 pub use writing::{clear, copy, insert, put_byte, put_bytes, send};
 

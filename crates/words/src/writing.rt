@@ -1,4 +1,5 @@
-// Writing a part of a slice, and nothing else of it.
+// Writing a part of a slice, and nothing else of it. Bytes are moved by loops: a slice's `copy_from_slice` and
+// `rotate_right` ask whoever links the library for `memmove`.
 ghost use Rattle.std.specs.Prelude.{◌≡◌, [], ◌∷◌, ◌++◌, ◌+◌, ◌<◌, ◌≤◌, length, drop, replicate};
 ghost use Rattle.std.proofs.Math.Seq.{paste};
 ghost use Rattle.words.specs.Calls.{Room, Appended, Inserted};
@@ -8,7 +9,9 @@ pub fn copy(to: &mut [u8], at: usize, part: &[u8])
     requires { at + length part.now ≤ length to.old }
     ensures { to.new ≡ paste to.old at part.now (length part.now) }
 {
-    to[at..at + part.len()].copy_from_slice(part);
+    for i in 0..part.len() {
+        to[at + i] = part[i];
+    }
 }
 
 // All of `part`, from the start: what a call sends.
@@ -50,6 +53,6 @@ pub fn insert(to: &mut [u8], count: usize, at: usize, byte: u8)
     requires { (at ≤ count) × (count < length to.old) }
     ensures { Inserted to.old count at byte to.new }
 {
-    to[at..count + 1].rotate_right(1);
+    to.copy_within(at..count, at + 1);
     to[at] = byte;
 }

@@ -17,27 +17,27 @@ admit-requires c = record {
   sound = c.if-not-sound.ensures.1 refl;
 }
 
-pub settle-longest-requires : goal.settle-longest-requires
-settle-longest-requires c = left-ready c.in_ok-draft.ensures
+pub settle-at-requires : goal.settle-at-requires
+settle-at-requires c = left-ready c.in_ok-draft.ensures
 
 pub returns-then-waiting_cap-longest : goal.returns-then-waiting_cap-longest
 returns-then-waiting_cap-longest c =
-    settled-backlog c.in_ok-draft.ensures c.settle-longest.ensures _ (omega (arith, c.waiting_cap.ensures))
+    settled-backlog c.in_ok-draft.ensures c.settle-at.ensures _ (omega (arith, c.waiting_cap.ensures))
 
 pub returns-then-out-count : goal.returns-then-out-count
 returns-then-out-count c =
-    settled-no-room c.in_ok-draft.ensures c.settle-longest.ensures (omega (arith, c.waiting_cap.ensures)) _ (omega arith)
+    settled-no-room c.in_ok-draft.ensures c.settle-at.ensures (omega (arith, c.waiting_cap.ensures)) _ (omega arith)
 
 pub write-requires : goal.write-requires
 write-requires c =
     let left = c.in_ok-draft.ensures in (
       left.left.opened.proper.sound.kept,
-      settled-fitting left c.settle-longest.ensures (omega (arith, c.waiting_cap.ensures)) c.args.out.now
+      settled-fitting left c.settle-at.ensures (omega (arith, c.waiting_cap.ensures)) c.args.out.now
           (omega arith),
       omega (arith, left-depth left.left),
     )
 
 pub returns : goal.returns
 returns c =
-    settled-taken c.in_ok-draft.ensures c.settle-longest.ensures (omega (arith, c.waiting_cap.ensures)) _ (omega arith)
+    settled-taken c.in_ok-draft.ensures c.settle-at.ensures (omega (arith, c.waiting_cap.ensures)) _ (omega arith)
     c.write.ensures c.send.ensures

@@ -1,5 +1,4 @@
 -- `step_drafts::settling::settle` meets its contract. Assumes nothing.
-use mathlib.Core.Path.{refl}
 use native.Mathlib.Omega.{arith}
 use Rattle.step_drafts.proofs.Pushing.{same-levelled}
 use Rattle.step_drafts.proofs.Cut.{ready-graded, settle-cutting, settle-levelled, settle-weighable, settled-to}
@@ -28,5 +27,4 @@ longest-longest-requires c = let p = c.push.ensures in
 pub returns : goal.returns
 returns c = let p = c.push.ensures in
     let v = same-levelled p.links c.find.ensures in
-    let on = c.common_on-sent.ensures in
-    settled-to c.requires p v on.1 c.cut.ensures refl (omega (arith, on.0)) c.longest-longest.ensures
+    settled-to c.requires p v c.common_on-sent.ensures.1 c.cut.ensures c.longest-longest.ensures
