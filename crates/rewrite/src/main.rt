@@ -26,13 +26,12 @@ const TEXT: usize = 134400;
 // A proved loop has to end, and nothing says that the input does: so it ends at a place that no message comes to.
 const MOST: u64 = 0x8000_0000_0000_0000;
 
-// A message: its table and session, and the rooms lent for it.
+// A message: its table, and the rooms for what it sends. Its session and the room of a step go beside it: pieces are copied
+// from one to the other, which is fast only where the compiler sees that they are two.
 #[derive(Drop)]
 struct Message<'a> {
     file: &'a [u8],
-    session: [u8; SIZE],
     out: [u8; OUT],
-    work: [u8; WORK],
     text: [u8; TEXT],
 }
 
@@ -108,20 +107,20 @@ fn say(rt: &(impl Print + Eprint), text: &[u8]) -> Option<()> {
 }
 
 fn on_table(rt: &(impl Print + Eprint), input: &mut impl Read, file: &[u8]) {
+    let mut session = [0; SIZE];
+    let mut work = [0; WORK];
     let mut message = Message {
         file,
-        session: [0; SIZE],
         out: [0; OUT],
-        work: [0; WORK],
         text: [0; TEXT],
     };
-    if session::begin(file, &mut message.session).is_err() {
+    if session::begin(file, &mut session).is_err() {
         no_table(rt);
         return;
     }
     let mut place: u64 = 0;
     while place < MOST {
-        let Some(taken) = on_input(rt, input, &mut message, place) else {
+        let Some(taken) = on_input(rt, input, &mut message, &mut session, &mut work, place) else {
             return;
         };
         place += taken as u64;
@@ -133,6 +132,8 @@ fn on_input(
     rt: &(impl Print + Eprint),
     input: &mut impl Read,
     message: &mut Message,
+    session: &mut [u8; SIZE],
+    work: &mut [u8; WORK],
     place: u64,
 ) -> Option<usize>
     requires { place + 65 < 2 ^ 64 }
@@ -141,10 +142,10 @@ fn on_input(
     let mut block = [0u8; BLOCK];
     let n = read_some(rt, input, &mut block)?;
     if n == 0 {
-        on_end(rt, message);
+        on_end(rt, message, session);
         return None;
     }
-    on_symbols(rt, message, &block[..n], place)?;
+    on_symbols(rt, message, session, work, &block[..n], place)?;
     Some(n)
 }
 
@@ -152,12 +153,14 @@ fn on_input(
 fn on_symbols(
     rt: &(impl Print + Eprint),
     message: &mut Message,
+    session: &mut [u8; SIZE],
+    work: &mut [u8; WORK],
     symbols: &[u8],
     place: u64,
 ) -> Option<()>
     requires { (length symbols.now ≤ 64) × (place + 65 < 2 ^ 64) }
 {
-    match put_symbols(message, symbols, place) {
+    match put_symbols(message, session, work, symbols, place) {
         ControlFlow::Continue(end) => say(rt, &message.text[..end]),
         ControlFlow::Break(end) => {
             say(rt, &message.text[..end]);
@@ -167,7 +170,13 @@ fn on_symbols(
 }
 
 // Puts their lines, up to the first that is refused. Answers the place after them.
-fn put_symbols(message: &mut Message, symbols: &[u8], place: u64) -> ControlFlow<usize, usize>
+fn put_symbols(
+    message: &mut Message,
+    session: &mut [u8; SIZE],
+    work: &mut [u8; WORK],
+    symbols: &[u8],
+    place: u64,
+) -> ControlFlow<usize, usize>
     requires { (length symbols.now ≤ 64) × (place + 65 < 2 ^ 64) }
     ensures { next_of result ≤ 134400 }
 {
@@ -175,10 +184,10 @@ fn put_symbols(message: &mut Message, symbols: &[u8], place: u64) -> ControlFlow
     for (i, symbol) in symbols.iter().enumerate() {
         at = put_symbol(
             message.file,
-            &mut message.session,
+            session,
             *symbol,
             &mut message.out,
-            &mut message.work,
+            work,
             place + i as u64 + 1,
             &mut message.text,
             at,
@@ -188,10 +197,10 @@ fn put_symbols(message: &mut Message, symbols: &[u8], place: u64) -> ControlFlow
 }
 
 // The end of the message.
-fn on_end(rt: &(impl Print + Eprint), message: &mut Message) {
+fn on_end(rt: &(impl Print + Eprint), message: &mut Message, session: &[u8; SIZE]) {
     let end = put_end(
         message.file,
-        &message.session,
+        session,
         &mut message.out,
         &mut message.text,
         0,
